@@ -1,0 +1,9 @@
+pub mod Below
+pub mod Laws
+pub mod PowerTables
+pub mod Powers
+pub mod Vandermonde
+pub mod Distance
+pub mod Cycle
+pub mod Elimination
+pub mod PlaceLists

@@ -1,0 +1,6 @@
+use Rattle.reed_solomon.proofs.Distance.{by-places, distance, fillable}
+use Rattle.reed_solomon.proofs.Elimination.{unique}
+use Rattle.reed_solomon.proofs.theorems.words_are_apart.Needs as need
+
+pub returns : need.returns
+returns c = record { places = by-places; distance = distance; unique = unique; fillable = fillable }

@@ -1,0 +1,3 @@
+pub mod Galois
+pub mod Steps
+pub mod Words
