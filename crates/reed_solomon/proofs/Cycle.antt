@@ -1,7 +1,7 @@
 -- The check sums repeat after 255 exponents, so that 255 of them are all.
 use mathlib.Core.Path.{_≡_, refl, sym, ap, ap₂, _∙_}
 use mathlib.Core.List.{List, [], _∷_}
-use Prim.Native.Nat.{ℕ, _*_, _%_, _≤_, _<_, min}
+use Prim.Native.Nat.{ℕ, _*_, _%_, _<_, min}
 use native.Mathlib.Nat.{mul-comm, mod-lt}
 use native.Mathlib.Decide.{decLt}
 use native.Mathlib.Omega.{arith}

@@ -1,6 +1,6 @@
 -- The laws of the field of 256 elements.
 use mathlib.Core.Path.{_≡_, refl, sym, ap, ap₂, subst, _∙_}
-use mathlib.Core.Logic.{_⊎_, inl, inr}
+use mathlib.Core.Logic.{_⊎_, inl, inr, _≢_}
 use Prim.Native.Nat.{ℕ, zero, suc, _*_, _/_, _%_, _<_}
 use native.Mathlib.Nat.{add-zero, zero-mul, one-mul, mul-zero, mod-lt, mod-eq-of-lt}
 use native.Mathlib.Omega.{arith}
@@ -21,6 +21,22 @@ xor-dbl : (a b : ℕ) → bitXor a b * 2 ≡ bitXor (a * 2) (b * 2)
 xor-dbl a b =
     sym (add-zero (bitXor a b * 2)) ∙ sym (xor-block 1 a b 0 0 (lit< tt) (lit< tt))
     ∙ ap₂ bitXor (add-zero (a * 2)) (add-zero (b * 2))
+
+pub xor-back : (a b : ℕ) → bitXor (bitXor a b) b ≡ a
+xor-back a b = xor-assoc a b b ∙ ap (bitXor a) (xor-self b) ∙ xor-zero-r a
+
+pub xor-cancel : (a b c : ℕ) → bitXor a c ≡ bitXor b c → a ≡ b
+xor-cancel a b c e = sym (xor-back a c) ∙ ap (λ x. bitXor x c) e ∙ xor-back b c
+
+pub xor-same : (a b : ℕ) → bitXor a b ≡ 0 → a ≡ b
+xor-same a b e = xor-cancel a b b (e ∙ sym (xor-self b))
+
+pub xor-differ : (a b : ℕ) → a ≢ b → 0 < bitXor a b
+xor-differ a b h = go (bitXor a b) refl
+  where
+    go : (x : ℕ) → bitXor a b ≡ x → 0 < x
+    go zero e = absurd (h (xor-same a b e))
+    go (suc x) e = omega arith
 
 -- ---- a bit times a number
 

@@ -2,8 +2,10 @@ pub mod Below
 pub mod Laws
 pub mod PowerTables
 pub mod Powers
+pub mod Sums
 pub mod Vandermonde
+pub mod Patches
 pub mod Distance
 pub mod Cycle
-pub mod Elimination
 pub mod PlaceLists
+pub mod Recursion

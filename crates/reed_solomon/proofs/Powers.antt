@@ -1,6 +1,6 @@
 -- The powers, the inverse, and that every byte but 0 is a power of 2.
 use mathlib.Core.Path.{_≡_, refl, sym, ap, _∙_}
-use mathlib.Core.Logic.{_⊎_, inl, inr}
+use mathlib.Core.Logic.{_⊎_, inl, inr, _≢_}
 use Prim.Native.Nat.{ℕ, zero, suc, _+_, _-_, _*_, _/_, _%_, _<_}
 use native.Mathlib.Nat.{zero-add, suc-add, mul-zero, mul-suc, mul-comm, add-comm}
 use native.Mathlib.Omega.{arith}
@@ -32,6 +32,15 @@ pub gpow-one : (e : ℕ) → gpow 1 e ≡ 1
 unfolding gpow
 gpow-one zero = refl
 gpow-one (suc e) = gmul-one-l (gpow 1 e) (gpow-lt 1 e) ∙ gpow-one e
+
+pub gpow-none : (x e : ℕ) → e ≡ 0 → gpow x e ≡ 1
+unfolding gpow
+gpow-none x e h = ap (gpow x) h
+
+pub gpow-nought : (x e : ℕ) → x ≡ 0 → e ≢ 0 → gpow x e ≡ 0
+unfolding gpow
+gpow-nought x zero p h = absurd (h refl)
+gpow-nought x (suc e) p h = ap (λ z. gmul z (gpow x e)) p ∙ gmul-zero-l (gpow x e)
 
 -- the table of powers: one computed test of the step
 exps-step : (i : ℕ) → i < 509 → getD exps (suc i) 0 ≡ gmul 2 (getD exps i 0)

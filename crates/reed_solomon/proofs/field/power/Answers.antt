@@ -1,7 +1,6 @@
 use mathlib.Core.Path.{_∙_, ap, sym}
-use Prim.Native.Nat.{_*_}
 use Rattle.reed_solomon.specs.Galois.{gpow}
-use Rattle.reed_solomon.proofs.Elimination.{gpow-nought, gpow-none}
+use Rattle.reed_solomon.proofs.Powers.{gpow-nought, gpow-none}
 use Rattle.reed_solomon.proofs.Powers.{alpha-mod-mul, gpow-mul}
 use Rattle.reed_solomon.proofs.field.power.Needs as need
 

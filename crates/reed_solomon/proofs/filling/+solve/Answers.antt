@@ -4,7 +4,7 @@ use mathlib.Core.List.{List}
 use Prim.Native.Nat.{ℕ, _-_, _<_}
 use native.Mathlib.Omega.{arith}
 use lib.ListN.{length}
-use Rattle.reed_solomon.proofs.Elimination.{rest, rest-length, distinct-rest, rest-apart, rest-put, bytes-from, solve-whole}
+use Rattle.reed_solomon.proofs.Recursion.{rest, rest-length, distinct-rest, rest-apart, rest-put, bytes-from, solve-whole}
 use Rattle.reed_solomon.proofs.filling.+solve.Needs as need
 
 pub solve-requires : need.solve-requires

@@ -1,7 +1,7 @@
 use mathlib.Core.Path.{_∙_, sym}
 use native.Mathlib.Omega.{arith}
 use Rattle.std.proofs.shelf.Lists.{drop-all}
-use Rattle.reed_solomon.proofs.Elimination.{patch-more, patch-end}
+use Rattle.reed_solomon.proofs.Sums.{patch-more, patch-end}
 use Rattle.reed_solomon.proofs.filling.add_at.Needs as need
 
 pub loop-i-again : need.loop-i-again

@@ -1,6 +1,6 @@
 use native.Mathlib.Omega.{arith}
 use lib.ListN.{getD}
-use Rattle.reed_solomon.proofs.Vandermonde.{xor-differ}
+use Rattle.reed_solomon.proofs.Laws.{xor-differ}
 use Rattle.reed_solomon.proofs.filling.divide.Needs as need
 
 pub reciprocal-requires : need.reciprocal-requires

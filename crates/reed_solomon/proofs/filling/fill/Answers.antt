@@ -1,4 +1,4 @@
-use mathlib.Core.Path.{_≡_, refl, sym, subst}
+use mathlib.Core.Path.{refl, subst}
 use native.Mathlib.Omega.{arith}
 use Rattle.reed_solomon.specs.Words.{Filled, Refused}
 use Rattle.reed_solomon.proofs.Cycle.{filled-all, refused-all}

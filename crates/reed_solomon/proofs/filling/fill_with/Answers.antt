@@ -1,15 +1,15 @@
 use borrow.Author.Needs.{needs}
 use mathlib.Core.Path.{_≡_, _∙_, ap, sym, refl, subst}
-use mathlib.Core.List.{List, map}
-use Prim.Native.Nat.{ℕ, _-_, _≤_, _<_}
+use Prim.Native.Nat.{ℕ, _≤_, _<_}
 use native.Mathlib.Omega.{arith}
 use lib.Dec.{T}
 use lib.ListN.{length, getD}
 use Rattle.std.proofs.shelf.Elements.{all-getD}
-use Rattle.reed_solomon.specs.Galois.{alpha}
 use Rattle.reed_solomon.specs.Steps.{vsum}
 use Rattle.reed_solomon.specs.Words.{syndrome, Distinct, Filled}
-use Rattle.reed_solomon.proofs.Elimination.{distinct-weights, filled, no-other, bytes-from, sums-agree}
+use Rattle.reed_solomon.proofs.Distance.{filled, no-other, sums-agree}
+use Rattle.reed_solomon.proofs.Patches.{distinct-weights}
+use Rattle.reed_solomon.proofs.Recursion.{bytes-from}
 use Rattle.reed_solomon.proofs.filling.fill_with.Needs as need
 
 pub weights-requires : need.weights-requires

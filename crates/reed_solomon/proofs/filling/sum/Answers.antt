@@ -1,7 +1,7 @@
 use mathlib.Core.Path.{_∙_, sym}
 use native.Mathlib.Omega.{arith}
 use Rattle.std.proofs.shelf.Lists.{drop-all}
-use Rattle.reed_solomon.proofs.Elimination.{xsum-more, xsum-end}
+use Rattle.reed_solomon.proofs.Sums.{xsum-more, xsum-end}
 use Rattle.reed_solomon.proofs.filling.sum.Needs as need
 
 pub loop-v-again : need.loop-v-again

@@ -6,7 +6,7 @@ use lib.ListN.{getD, drop}
 use Rattle.reed_solomon.specs.Galois.{gmul}
 use Rattle.reed_solomon.specs.Steps.{vsum}
 use Rattle.std.proofs.shelf.Lists.{drop-all}
-use Rattle.reed_solomon.proofs.Elimination.{vsum-more, vsum-end}
+use Rattle.reed_solomon.proofs.Sums.{vsum-more, vsum-end}
 use Rattle.reed_solomon.proofs.filling.weighed_sum.Needs as need
 
 pub loop-i-again : need.loop-i-again

@@ -5,7 +5,7 @@ use lib.ListN.{length, getD}
 use Rattle.reed_solomon.specs.Galois.{gmul, alpha}
 use Rattle.reed_solomon.specs.Words.{sumTo}
 use Rattle.reed_solomon.proofs.Powers.{alpha-mod-both}
-use Rattle.reed_solomon.proofs.Distance.{by-places, sumTo-more}
+use Rattle.reed_solomon.proofs.Sums.{by-places, sumTo-more}
 use Rattle.reed_solomon.proofs.syndromes.check_sum.Needs as need
 
 pub loop-j-holds : need.loop-j-holds

@@ -5,7 +5,7 @@ use lib.Bits.{bitXor}
 use lib.ListN.{getD}
 use Rattle.reed_solomon.specs.Words.{syndrome}
 use Rattle.std.proofs.shelf.Lists.{take-all}
-use Rattle.reed_solomon.proofs.Elimination.{syn-more}
+use Rattle.reed_solomon.proofs.Sums.{syn-more}
 use Rattle.reed_solomon.proofs.Powers.{alpha-mod}
 use Rattle.reed_solomon.proofs.syndromes.evaluate.Needs as need
 

@@ -1,5 +1,5 @@
-use Rattle.reed_solomon.proofs.Distance.{by-places, distance, fillable}
-use Rattle.reed_solomon.proofs.Elimination.{unique}
+use Rattle.reed_solomon.proofs.Sums.{by-places}
+use Rattle.reed_solomon.proofs.Distance.{distance, unique, fillable}
 use Rattle.reed_solomon.proofs.theorems.words_are_apart.Needs as need
 
 pub returns : need.returns
