@@ -1,4 +1,42 @@
+ghost use mathlib.Core.Path.{_≡_};
+ghost use Prim.Native.Nat.{ℕ, _<_};
+ghost use lib.ListN.{length, getD};
+ghost use Rattle.std.specs.declared.option.Option.the-variants.{None};
+ghost use Rattle.channel.specs.Codes.{Narrow, Apart, sheetEncode, sheetDecode};
+
+use crate::line::LineCode;
+use crate::state::State;
+
 /// A sheet as it is handed in: numbers of whatever size and count. It is no line code.
 pub struct RawSheet<'a> {
     pub numbers: &'a [u32],
+}
+
+/// A sheet that was checked: its numbers are good, so it serves as a line code.
+#[derive(Drop)]
+pub struct CheckedSheet {
+    numbers: [u16; 512],
+    bytes: [Option<u8>; 1024],
+    ghost size: { length numbers ≡ 512 },
+    ghost narrow: { Narrow numbers },
+    ghost apart: { Apart numbers },
+    ghost inverse: { (w : ℕ) → w < 1024 → getD bytes w None ≡ sheetDecode numbers w },
+}
+
+pub impl LineCode for CheckedSheet as CheckedSheetLine {
+    ghost encode = { λ c s b. sheetEncode (c .numbers) s b };
+
+    ghost decode = { λ c w. sheetDecode (c .numbers) w };
+
+    /// The word and the next state that the sheet has for the byte.
+    fn encode(&self, state: State, byte: u8) -> (u16, State) {
+        let number = self.numbers[2 * byte as usize + state.number() as usize];
+        let next = if number < 1024 { State::Zero } else { State::One };
+        (number % 1024, next)
+    }
+
+    /// The byte whose word this is, or none.
+    fn decode(&self, word: u16) -> Option<u8> {
+        if word < 1024 { self.bytes[word as usize] } else { None }
+    }
 }
