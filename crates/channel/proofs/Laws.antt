@@ -15,7 +15,7 @@ use Rattle.std.specs.declared.option.Option.the-variants.{Some, None}
 use Rattle.channel.specs.declared.state.State.{State}
 use Rattle.channel.specs.declared.state.State.the-variants.{Zero, One}
 use Rattle.channel.specs.States.{stateNumber}
-use Rattle.channel.specs.Codes.{place, wordOf, byteOf, Apart}
+use Rattle.channel.specs.Codes.{place, wordOf, byteOf, Apart, Shared, free}
 
 -- a number above 1,023 is no word
 pub byteOf-wide : (xs : List ℕ) (n w : ℕ) → 1024 ≤ w → byteOf xs n w ≡ None
@@ -24,23 +24,103 @@ byteOf-wide xs zero w h = refl
 byteOf-wide xs (suc n) w h =
     rw (ne-eqb (getD xs n 0 % 1024) w (λ e. omega (arith, mod-below (getD xs n 0) 1024 (lit< tt)))) (byteOf-wide xs n w h)
 
--- one number more
-pub byteOf-hit : (xs : List ℕ) (n w : ℕ) → wordOf (getD xs n 0) ≡ w → byteOf xs (n + 1) w ≡ Some (n / 2)
+pub byteOf-start : (xs : List ℕ) (w : ℕ) → byteOf xs 0 w ≡ None
 unfolding byteOf
-byteOf-hit xs n w e = rw (add-one, eq-eqb (getD xs n 0 % 1024) w e)
+byteOf-start xs w = refl
 
-pub byteOf-miss : (xs : List ℕ) (n w : ℕ) → (wordOf (getD xs n 0) ≡ w → ⊥) → byteOf xs (n + 1) w ≡ byteOf xs n w
+-- one number more
+byteOf-hit : (xs : List ℕ) (n w : ℕ) → wordOf (getD xs n 0) ≡ w → byteOf xs (suc n) w ≡ Some (n / 2)
 unfolding byteOf
-byteOf-miss xs n w e = rw (add-one, ne-eqb (getD xs n 0 % 1024) w e)
+byteOf-hit xs n w e = rw (eq-eqb (getD xs n 0 % 1024) w e)
+
+byteOf-miss : (xs : List ℕ) (n w : ℕ) → (wordOf (getD xs n 0) ≡ w → ⊥) → byteOf xs (suc n) w ≡ byteOf xs n w
+unfolding byteOf
+byteOf-miss xs n w e = rw (ne-eqb (getD xs n 0 % 1024) w e)
 
 -- where the word stands under one byte alone, that byte is found
 pub byteOf-finds : (xs : List ℕ) (n w j : ℕ) → j < n → wordOf (getD xs j 0) ≡ w → ((i : ℕ) → i < n → wordOf (getD xs i 0) ≡ w → i / 2 ≡ j / 2) → byteOf xs n w ≡ Some (j / 2)
 byteOf-finds xs zero w j l e h = absurd (let no : ⊥ = omega arith in no)
-byteOf-finds xs (suc n) w j l e h = rw (← add-one n) (⊎-elim
+byteOf-finds xs (suc n) w j l e h =
+    ⊎-elim
     (λ (q : getD xs n 0 % 1024 ≡ w). byteOf-hit xs n w q ∙ ap Some (h n (omega arith) q))
     (λ (q : getD xs n 0 % 1024 ≡ w → ⊥).
         byteOf-miss xs n w q ∙ byteOf-finds xs n w j (⊎-elim (λ (s : j ≡ n). absurd (q (rw s at e))) (λ (s : j ≡ n → ⊥). omega arith) (cases-eq j n)) e (λ i il ie. h i (omega arith) ie))
+    (cases-eq (getD xs n 0 % 1024) w)
+
+-- a byte that is found has the word
+pub byteOf-some : (xs : List ℕ) (n w b : ℕ) → byteOf xs n w ≡ Some b → (j : ℕ) × (j < n) × (wordOf (getD xs j 0) ≡ w) × (j / 2 ≡ b)
+byteOf-some xs zero w b e = absurd (let no : _≡_ {A = ℕ} 0 1 = cc (byteOf-start xs w) in omega arith)
+byteOf-some xs (suc n) w b e =
+    ⊎-elim
+    (λ (q : getD xs n 0 % 1024 ≡ w). (n, omega arith, q, cc (byteOf-hit xs n w q)))
+    (λ (q : getD xs n 0 % 1024 ≡ w → ⊥).
+        let r = byteOf-some xs n w b (sym (byteOf-miss xs n w q) ∙ e) in
+        (r .0, omega (arith, r .1), r .2, r .3))
+    (cases-eq (getD xs n 0 % 1024) w)
+
+-- where none is found, no number has the word
+pub byteOf-none : (xs : List ℕ) (n w j : ℕ) → byteOf xs n w ≡ None → j < n → wordOf (getD xs j 0) ≡ w → ⊥
+byteOf-none xs zero w j e l q = omega arith
+byteOf-none xs (suc n) w j e l q =
+    ⊎-elim
+    (λ (p : getD xs n 0 % 1024 ≡ w). let no : _≡_ {A = ℕ} 0 1 = cc (byteOf-hit xs n w p) in omega arith)
+    (λ (p : getD xs n 0 % 1024 ≡ w → ⊥).
+        byteOf-none xs n w j (sym (byteOf-miss xs n w p) ∙ e) (⊎-elim (λ (s : j ≡ n). absurd (p (rw s at q))) (λ (s : j ≡ n → ⊥). omega arith) (cases-eq j n)) q)
+    (cases-eq (getD xs n 0 % 1024) w)
+
+-- the table and the numbers so far
+abbrev pub Filled : List (Option ℕ) → List ℕ → ℕ → Type 0
+Filled bs xs n = (w : ℕ) → w < 1024 → getD bs w None ≡ byteOf xs n w
+
+abbrev pub ApartTo : List ℕ → ℕ → Type 0
+ApartTo xs n = (i j : ℕ) → (i < n) × (j < n) × (wordOf (getD xs i 0) ≡ wordOf (getD xs j 0)) → i / 2 ≡ j / 2
+
+-- a free entry: every number before with the word is of this byte
+one-byte : (xs : List ℕ) (n b w j : ℕ) (v : Option ℕ) → byteOf xs n w ≡ v → free v b ≡ true → ApartTo xs n → j < n → wordOf (getD xs j 0) ≡ w → j / 2 ≡ b
+one-byte xs n b w j None e f a l q = absurd (byteOf-none xs n w j e l q)
+one-byte xs n b w j (Some o) e f a l q =
+    let r = byteOf-some xs n w o e in
+    a j (r .0) (l, r .1, q ∙ sym (r .2)) ∙ (r .3 ∙ eqb-true o b f)
+
+two-bytes : (xs : List ℕ) (n w : ℕ) (v : Option ℕ) → byteOf xs n w ≡ v → free v (n / 2) ≡ false → wordOf (getD xs n 0) ≡ w → n < length xs → Shared xs
+two-bytes xs n w None e f q l = absurd (let no : _≡_ {A = ℕ} 0 1 = cc in omega arith)
+two-bytes xs n w (Some o) e f q l =
+    let r = byteOf-some xs n w o e in
+    (r .0, n, omega (arith, r .1), l, r .2 ∙ sym q, λ t. eqb-false o (n / 2) f (sym (r .3) ∙ t))
+
+apart-more : (xs : List ℕ) (n : ℕ) → ApartTo xs n → ((j : ℕ) → j < n → wordOf (getD xs j 0) ≡ wordOf (getD xs n 0) → j / 2 ≡ n / 2) → ApartTo xs (n + 1)
+apart-more xs n a k i j (il, jl, e) =
+    ⊎-elim
+    (λ (p : i ≡ n). ⊎-elim
+        (λ (q : j ≡ n). ap (λ (m : ℕ). m / 2) (p ∙ sym q))
+        (λ (q : j ≡ n → ⊥). ap (λ (m : ℕ). m / 2) p ∙ sym (k j (omega arith) (sym e ∙ ap (λ (m : ℕ). getD xs m 0 % 1024) p)))
+        (cases-eq j n))
+    (λ (p : i ≡ n → ⊥). ⊎-elim
+        (λ (q : j ≡ n). k i (omega arith) (e ∙ ap (λ (m : ℕ). getD xs m 0 % 1024) q) ∙ ap (λ (m : ℕ). m / 2) (sym q))
+        (λ (q : j ≡ n → ⊥). a i j (omega arith, omega arith, e))
+        (cases-eq j n))
+    (cases-eq i n)
+
+filled-more : (bs : List (Option ℕ)) (xs : List ℕ) (n : ℕ) → length bs ≡ 1024 → Filled bs xs n → Filled (set bs (wordOf (getD xs n 0)) (Some (n / 2))) xs (n + 1)
+filled-more bs xs n z f w l =
+    rw add-one (⊎-elim
+    (λ (p : getD xs n 0 % 1024 ≡ w).
+        let t : getD xs n 0 % 1024 < length bs = omega arith in
+        ap (λ (m : ℕ). getD (set bs (getD xs n 0 % 1024) (Some (n / 2))) m None) (sym p) ∙ (getD-set-same bs (getD xs n 0 % 1024) (Some (n / 2)) None t ∙ sym (byteOf-hit xs n w p)))
+    (λ (p : getD xs n 0 % 1024 ≡ w → ⊥).
+        getD-set-other bs (getD xs n 0 % 1024) w (Some (n / 2)) None (λ q. p (sym q)) ∙ (f w l ∙ sym (byteOf-miss xs n w p)))
     (cases-eq (getD xs n 0 % 1024) w))
+
+-- one turn of the loop that fills the table
+pub table-more : (bs : List (Option ℕ)) (xs : List ℕ) (n : ℕ) → length bs ≡ 1024 → Filled bs xs n → ApartTo xs n → free (getD bs (wordOf (getD xs n 0)) None) (n / 2) ≡ true → Filled (set bs (wordOf (getD xs n 0)) (Some (n / 2))) xs (n + 1) × ApartTo xs (n + 1)
+table-more bs xs n z f a t =
+    let e : byteOf xs n (wordOf (getD xs n 0)) ≡ getD bs (wordOf (getD xs n 0)) None = sym (f (wordOf (getD xs n 0)) (mod-below (getD xs n 0) 1024 (lit< tt))) in
+    (filled-more bs xs n z f, apart-more xs n a (λ j l q. one-byte xs n (n / 2) (wordOf (getD xs n 0)) j _ e t a l q))
+
+pub table-shared : (bs : List (Option ℕ)) (xs : List ℕ) (n : ℕ) → Filled bs xs n → free (getD bs (wordOf (getD xs n 0)) None) (n / 2) ≡ false → n < length xs → Shared xs
+table-shared bs xs n f t l =
+    let e : byteOf xs n (wordOf (getD xs n 0)) ≡ getD bs (wordOf (getD xs n 0)) None = sym (f (wordOf (getD xs n 0)) (mod-below (getD xs n 0) 1024 (lit< tt))) in
+    two-bytes xs n (wordOf (getD xs n 0)) _ e t refl l
 
 place-half : (s : State) (b : ℕ) → place s b / 2 ≡ b
 place-half Zero b = omega arith

@@ -1,6 +1,6 @@
 use Prim.Native.Nat.{ℕ, zero, suc, _+_, _*_, _/_, _%_, _<_, _≤_}
 use mathlib.Core.Path.{_≡_}
-use mathlib.Core.Bool.{cond}
+use mathlib.Core.Bool.{Bool, true, cond}
 use mathlib.Core.List.{List}
 use lib.ListN.{length, getD}
 use lib.Dec.{eqb, ltb}
@@ -52,6 +52,24 @@ abbrev pub Apart : List ℕ → Type 0
 Apart xs =
     (i j : ℕ) → (i < length xs) × (j < length xs) × (wordOf (getD xs i 0) ≡ wordOf (getD xs j 0)) → i / 2 ≡ j / 2
 
+-- A number is above 2,047.
+abbrev pub Wide : List ℕ → Type 0
+Wide xs = (i : ℕ) × (i < length xs) × (2047 < getD xs i 0)
+
+-- One word stands under two different bytes.
+abbrev pub Shared : List ℕ → Type 0
+Shared xs =
+    (i : ℕ) × (j : ℕ) × (i < length xs) × (j < length xs) × (wordOf (getD xs i 0) ≡ wordOf (getD xs j 0)) × (i / 2 ≡ j / 2 → ⊥)
+
 -- A good sheet: 512 numbers, none above 2,047, and no word under two bytes.
 abbrev pub Good : List ℕ → Type 0
 Good xs = (length xs ≡ 512) × Narrow xs × Apart xs
+
+-- What a table of 1,024 entries has to hold: at each word what the sheet's decode gives.
+abbrev pub Inverse : List (Option ℕ) → List ℕ → Type 0
+Inverse bytes xs = (w : ℕ) → w < 1024 → getD bytes w None ≡ sheetDecode xs w
+
+-- A byte may take an entry that is empty, or that it has already.
+abbrev pub free : Option ℕ → ℕ → Bool
+free None b = true
+free (Some a) b = eqb a b
