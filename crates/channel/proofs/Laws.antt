@@ -9,20 +9,14 @@ use lib.Dec.{ltb, eqb, lit<}
 use lib.ListN.{length, getD, set}
 use Rattle.std.proofs.shelf.Lists.{length-set, getD-set-same, getD-set-other}
 use Rattle.std.proofs.shelf.Bits.{mod-below}
-use Rattle.std.proofs.shelf.Tests.{eq-eqb, ne-eqb, cases-eq, eqb-true, eqb-false}
+use Rattle.std.proofs.shelf.Tests.{eq-eqb, ne-eqb, cases-eq, cases-lt, eqb-true, eqb-false, lt-ltb, le-ltb, cond-true, cond-false}
+use Rattle.std.proofs.shelf.Ways.{tells}
 use Rattle.std.specs.declared.option.Option.{Option}
 use Rattle.std.specs.declared.option.Option.the-variants.{Some, None}
 use Rattle.channel.specs.declared.state.State.{State}
 use Rattle.channel.specs.declared.state.State.the-variants.{Zero, One}
 use Rattle.channel.specs.States.{stateNumber}
-use Rattle.channel.specs.Codes.{place, wordOf, byteOf, Apart, Shared, free}
-
--- a number above 1,023 is no word
-pub byteOf-wide : (xs : List ℕ) (n w : ℕ) → 1024 ≤ w → byteOf xs n w ≡ None
-unfolding byteOf
-byteOf-wide xs zero w h = refl
-byteOf-wide xs (suc n) w h =
-    rw (ne-eqb (getD xs n 0 % 1024) w (λ e. omega (arith, mod-below (getD xs n 0) 1024 (lit< tt)))) (byteOf-wide xs n w h)
+use Rattle.channel.specs.Codes.{place, wordOf, byteOf, sheetEncode, sheetDecode, plainEncode, plainDecode, Narrow, Apart, Shared, free}
 
 pub byteOf-start : (xs : List ℕ) (w : ℕ) → byteOf xs 0 w ≡ None
 unfolding byteOf
@@ -67,6 +61,18 @@ byteOf-none xs (suc n) w j e l q =
     (λ (p : getD xs n 0 % 1024 ≡ w → ⊥).
         byteOf-none xs n w j (sym (byteOf-miss xs n w p) ∙ e) (⊎-elim (λ (s : j ≡ n). absurd (p (rw s at q))) (λ (s : j ≡ n → ⊥). omega arith) (cases-eq j n)) q)
     (cases-eq (getD xs n 0 % 1024) w)
+
+-- where no number has the word, none is found
+pub byteOf-lacks : (xs : List ℕ) (n w : ℕ) → ((j : ℕ) → j < n → wordOf (getD xs j 0) ≡ w → ⊥) → byteOf xs n w ≡ None
+byteOf-lacks xs n w h = go (byteOf xs n w) refl
+  where
+    go : (v : Option ℕ) → byteOf xs n w ≡ v → byteOf xs n w ≡ None
+    go None e = e
+    go (Some b) e = let r = byteOf-some xs n w b e in absurd (h (r .0) (r .1) (r .2))
+
+-- a number above 1,023 is no word
+pub byteOf-wide : (xs : List ℕ) (n w : ℕ) → 1024 ≤ w → byteOf xs n w ≡ None
+byteOf-wide xs n w h = byteOf-lacks xs n w (λ j l e. omega (arith, mod-below (getD xs j 0) 1024 (lit< tt)))
 
 -- the table and the numbers so far
 abbrev pub Filled : List (Option ℕ) → List ℕ → ℕ → Type 0
@@ -135,3 +141,48 @@ pub sheet-back : (xs : List ℕ) (s : State) (b : ℕ) → length xs ≡ 512 →
 sheet-back xs s b e a h =
     let l : place s b < length xs = omega (arith, place-below s b h) in
     byteOf-finds xs (length xs) _ (place s b) l refl (λ i il ie. a i (place s b) (il, l, ie)) ∙ ap Some (place-half s b)
+
+-- the plain code as a sheet
+abbrev pub PlainNumbers : List ℕ → Type 0
+PlainNumbers xs = (length xs ≡ 512) × ((i : ℕ) → i < 512 → getD xs i 0 ≡ i / 2 + 1024)
+
+plain-word : (xs : List ℕ) (i : ℕ) → PlainNumbers xs → i < 512 → wordOf (getD xs i 0) ≡ i / 2
+plain-word xs i p l = omega (arith, p .1 i l)
+
+pub plain-narrow : (xs : List ℕ) → PlainNumbers xs → Narrow xs
+plain-narrow xs p i l = omega (arith, p .0, p .1 i (omega (arith, p .0)))
+
+pub plain-apart : (xs : List ℕ) → PlainNumbers xs → Apart xs
+plain-apart xs p i j (il, jl, e) =
+    sym (plain-word xs i p (omega (arith, p .0))) ∙ (e ∙ plain-word xs j p (omega (arith, p .0)))
+
+pub plain-encode : (xs : List ℕ) (s : State) (b : ℕ) → PlainNumbers xs → b < 256 → sheetEncode xs s b ≡ plainEncode s b
+plain-encode xs s b p h =
+    let l : place s b < 512 = place-below s b h in
+    let e : getD xs (place s b) 0 ≡ b + 1024 = p .1 (place s b) l ∙ ap (λ (m : ℕ). m + 1024) (place-half s b) in
+    let w : (b + 1024) % 1024 ≡ b = omega arith in
+    let n : ltb (b + 1024) 1024 ≡ false = le-ltb (b + 1024) 1024 (omega arith) in
+    simp (e, w, n)
+
+pub plain-decode : (xs : List ℕ) (w : ℕ) → PlainNumbers xs → sheetDecode xs w ≡ plainDecode w
+plain-decode xs w p =
+    ⊎-elim
+    (λ (l : w < 256).
+        byteOf-finds xs (length xs) w (2 * w) (omega (arith, p .0)) (plain-word xs (2 * w) p (omega arith) ∙ omega arith) (λ i il ie. sym (plain-word xs i p (omega (arith, p .0))) ∙ (ie ∙ omega arith))
+        ∙ (ap Some (omega arith) ∙ sym (cond-true (ltb w 256) (Some w) None (lt-ltb w 256 l))))
+    (λ (l : 256 ≤ w).
+        byteOf-lacks xs (length xs) w (λ j jl e. omega (arith, p .0, plain-word xs j p (omega (arith, p .0))))
+        ∙ sym (cond-false (ltb w 256) (Some w) None (le-ltb w 256 l)))
+    (cases-lt w 256)
+
+same-test : (w n : ℕ) → (w ≡ n → ⊥) → ltb w n ≡ ltb w (n + 1)
+same-test w n p = grind (arith, tells)
+
+-- one turn of the loop that fills the plain code's table
+pub plain-more : (bs : List (Option ℕ)) (n : ℕ) → n < length bs → ((w : ℕ) → w < 1024 → getD bs w None ≡ cond (ltb w n) (Some w) None)
+    → (w : ℕ) → w < 1024 → getD (set bs n (Some n)) w None ≡ cond (ltb w (n + 1)) (Some w) None
+plain-more bs n l f w h =
+    ⊎-elim
+    (λ (p : w ≡ n). rw p (getD-set-same bs n (Some n) None l ∙ sym (cond-true (ltb n (n + 1)) (Some n) None (lt-ltb n (n + 1) (omega arith)))))
+    (λ (p : w ≡ n → ⊥). getD-set-other bs n w (Some n) None p ∙ (f w h ∙ ap (λ b. cond b (Some w) None) (same-test w n p)))
+    (cases-eq w n)

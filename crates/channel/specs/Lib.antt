@@ -1,3 +1,4 @@
 pub mod States
 pub mod Faults
 pub mod Codes
+pub mod Served

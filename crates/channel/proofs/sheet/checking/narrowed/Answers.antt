@@ -1,7 +1,7 @@
 use native.Mathlib.Omega.{arith}
 use mathlib.Core.Path.{_≡_, sym, _∙_}
 use Rattle.std.proofs.shelf.Lists.{ext-getD}
-use Rattle.channel.proofs.sheet.narrowed.Needs as need
+use Rattle.channel.proofs.sheet.checking.narrowed.Needs as need
 
 pub returns : need.returns
 returns c =

@@ -3,7 +3,7 @@ use mathlib.Core.Path.{refl, sym, _∙_}
 use Rattle.std.specs.declared.option.Option.the-variants.{None}
 use Rattle.std.proofs.shelf.Lists.{getD-replicate, length-set}
 use Rattle.channel.proofs.Laws.{byteOf-start, table-more, table-shared}
-use Rattle.channel.proofs.sheet.inverted.Needs as need
+use Rattle.channel.proofs.sheet.checking.inverted.Needs as need
 
 pub loop-i-holds : need.loop-i-holds
 loop-i-holds c =
