@@ -2,3 +2,4 @@ pub mod States
 pub mod Faults
 pub mod Codes
 pub mod Served
+pub mod Listed

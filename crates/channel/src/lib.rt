@@ -7,5 +7,6 @@
 pub mod fault;
 pub mod line;
 pub mod plain;
+pub mod series;
 pub mod sheet;
 pub mod state;
