@@ -132,7 +132,7 @@ place-half : (s : State) (b : ℕ) → place s b / 2 ≡ b
 place-half Zero b = omega arith
 place-half One b = omega arith
 
-place-below : (s : State) (b : ℕ) → b < 256 → place s b < 512
+pub place-below : (s : State) (b : ℕ) → b < 256 → place s b < 512
 place-below Zero b h = omega arith
 place-below One b h = omega arith
 
@@ -186,3 +186,11 @@ plain-more bs n l f w h =
     (λ (p : w ≡ n). rw p (getD-set-same bs n (Some n) None l ∙ sym (cond-true (ltb n (n + 1)) (Some n) None (lt-ltb n (n + 1) (omega arith)))))
     (λ (p : w ≡ n → ⊥). getD-set-other bs n w (Some n) None p ∙ (f w h ∙ ap (λ b. cond b (Some w) None) (same-test w n p)))
     (cases-eq w n)
+
+-- every place is that of a byte in a state
+pub place-of : (i : ℕ) → (s : State) × (place s (i / 2) ≡ i)
+place-of i =
+    ⊎-elim
+    (λ (e : i % 2 ≡ 0). (Zero, omega arith))
+    (λ (e : i % 2 ≡ 0 → ⊥). (One, omega arith))
+    (cases-eq (i % 2) 0)

@@ -4,6 +4,7 @@ use Prim.Native.Nat.{ℕ, _+_, _<_, _≤_}
 use native.Mathlib.Omega.{arith}
 use lib.ListN.{length, getD, set, take, drop}
 use Rattle.std.proofs.shelf.Lists.{append-assoc, append-nil, take-more-set, take-all, map-more, at-drop-more, at-drop-all}
+use Rattle.std.specs.declared.option.Option.{Option}
 use Rattle.channel.specs.declared.state.State.{State}
 use Rattle.channel.specs.Listed.{encodeAll, stateAfter}
 
@@ -27,13 +28,14 @@ words-all f bs ws all s i l n h =
 pub state-all : (f : State → ℕ → ℕ × State) (bs : List ℕ) (s t : State) (i : ℕ) → length bs ≤ i → stateAfter f s (drop i bs) ≡ t → s ≡ t
 state-all f bs s t i l h = sym (at-drop-all (λ xs. stateAfter f s xs) bs i l) ∙ h
 
--- one more element of one list is made from the other
-pub mapped-more : {Y : Type 0} (k : ℕ → Y) (ws : List ℕ) (ys : List Y) (i : ℕ) (y : Y) → i < length ws → length ys ≡ length ws
-    → take i ys ≡ map k (take i ws) → y ≡ k (getD ws i 0) → take (i + 1) (set ys i y) ≡ map k (take (i + 1) ws)
-mapped-more k ws ys i y l n h e =
+-- one more word is decoded
+pub decoded-more : {Y : Type 0} (k : Option ℕ → Y) (f : ℕ → Option ℕ) (ws : List ℕ) (ys : List Y) (i : ℕ) (y : Y) (o : Option ℕ) → i < length ws → length ys ≡ length ws
+    → take i ys ≡ map (λ w. k (f w)) (take i ws) → y ≡ k o → o ≡ f (getD ws i 0) → take (i + 1) (set ys i y) ≡ map (λ w. k (f w)) (take (i + 1) ws)
+decoded-more k f ws ys i y o l n h e d =
     let m : i < length ys = omega arith in
-    take-more-set ys i y m ∙ (rw (h, e) refl ∙ sym (map-more k ws i 0 l))
+    take-more-set ys i y m ∙ (rw (h, e, d) refl ∙ sym (map-more (λ w. k (f w)) ws i 0 l))
 
-pub mapped-all : {Y : Type 0} (k : ℕ → Y) (ws : List ℕ) (ys : List Y) (i : ℕ) → length ws ≤ i → length ys ≡ length ws
-    → take i ys ≡ map k (take i ws) → ys ≡ map k ws
-mapped-all k ws ys i l n h = sym (take-all i ys (omega arith)) ∙ (h ∙ ap (map k) (take-all i ws l))
+-- all words are decoded
+pub decoded-all : {Y : Type 0} (k : Option ℕ → Y) (f : ℕ → Option ℕ) (ws : List ℕ) (ys : List Y) (i : ℕ) → length ws ≤ i → length ys ≡ length ws
+    → take i ys ≡ map (λ w. k (f w)) (take i ws) → ys ≡ map (λ w. k (f w)) ws
+decoded-all k f ws ys i l n h = sym (take-all i ys (omega arith)) ∙ (h ∙ ap (map (λ w. k (f w))) (take-all i ws l))

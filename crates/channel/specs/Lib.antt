@@ -3,3 +3,4 @@ pub mod Faults
 pub mod Codes
 pub mod Served
 pub mod Listed
+pub mod Stand

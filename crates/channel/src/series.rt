@@ -3,6 +3,7 @@ ghost use mathlib.Core.Bool.{Bool, true, false, cond, _&&_};
 ghost use lib.Dec.{eqb};
 ghost use lib.ListN.{length};
 ghost use Rattle.std.specs.declared.option.Option.the-variants.{Some, None};
+ghost use Rattle.channel.specs.Stand.{SeriesComeBack};
 ghost use Rattle.channel.specs.Listed.{encodeAll, stateAfter, decodeAll, lostOf, orZero, isLost};
 
 use crate::line::LineCode;
@@ -49,10 +50,17 @@ pub fn decode_all<C: LineCode>(code: &C, words: &[u16], bytes: &mut [u8], lost: 
 
 /// The byte, or 0 where there is none, and whether there is none.
 fn byte_or_zero(byte: Option<u8>) -> (u8, bool)
-    ensures { λ r. ⌜ r ≡ (orZero byte, isLost byte) ⌝ }
+    ensures byte { λ r. ⌜ r .0 ≡ orZero byte ⌝ }
+    ensures mark { λ r. ⌜ r .1 ≡ isLost byte ⌝ }
 {
     match byte {
         Some(b) => (b, false),
         None => (0, true),
     }
+}
+
+/// What one series of bytes becomes, encoded and decoded: the same bytes, none of them lost.
+pub fn series_stand()
+    ensures { λ _. ⌜ SeriesComeBack ⌝ }
+{
 }

@@ -8,6 +8,7 @@ use crate::state::State;
 pub mod checking;
 
 pub use checking::check;
+pub use checking::sheets_stand;
 
 /// A sheet as it is handed in: numbers of whatever size and count. It is no line code.
 pub struct RawSheet<'a> {

@@ -6,6 +6,7 @@ ghost use Rattle.std.specs.Results.{Cases};
 ghost use Rattle.std.specs.declared.option.Option.the-variants.{None};
 ghost use Rattle.channel.specs.Codes.{Narrow, Apart, Wide, Shared, Inverse, free, plainEncode, plainDecode, sheetEncode, sheetDecode};
 ghost use Rattle.channel.specs.Faults.{SheetVerdict};
+ghost use Rattle.channel.specs.Stand.{GoodSheetsServe, DecodesNoMore, SharedWordsServeNever, OneVerdict};
 ghost use Rattle.channel.specs.Served.{ServesAs};
 
 use crate::fault::SheetFault;
@@ -104,4 +105,14 @@ fn inverted(numbers: &[u16; 512]) -> Option<[Option<u8>; 1024]>
         bytes[word] = Some(byte);
     }
     Some(bytes)
+}
+
+/// What the check rests on: a good sheet is a line code, a sheet with a word under two bytes is none whatever the
+/// decoding, and no sheet has two verdicts.
+pub fn sheets_stand()
+    ensures serve { λ _. ⌜ GoodSheetsServe ⌝ }
+    ensures exact { λ _. ⌜ DecodesNoMore ⌝ }
+    ensures only { λ _. ⌜ SharedWordsServeNever ⌝ }
+    ensures verdict { λ _. ⌜ OneVerdict ⌝ }
+{
 }

@@ -1,11 +1,9 @@
-use mathlib.Core.Path.{sym, _∙_, ap}
-use mathlib.Core.Bool.{Bool}
-use Prim.Native.Nat.{ℕ}
+use mathlib.Core.Path.{sym, _∙_}
 use lib.ListN.{length}
 use Rattle.std.proofs.shelf.Lists.{length-set}
 use Rattle.std.proofs.shelf.Tests.{eq-eqb, and-from}
 use Rattle.channel.specs.Listed.{orZero, isLost}
-use Rattle.channel.proofs.Turns.{mapped-more, mapped-all}
+use Rattle.channel.proofs.Turns.{decoded-more, decoded-all}
 use Rattle.channel.proofs.series.decode_all.Needs as need
 
 pub loop-i-again : need.loop-i-again
@@ -18,8 +16,8 @@ loop-i-again g c =
     let l = c .loop-i-test .taken in
     ( length-set _ _ _ ∙ c .loop-i .inv .0
     , length-set _ _ _ ∙ c .loop-i .inv .1
-    , mapped-more (λ w. orZero (k w)) ws (c .loop-i .bytes) i _ l (c .loop-i .inv .0) (c .loop-i .inv .2) (ap (λ (p : ℕ × Bool). p .0) e ∙ ap orZero d)
-    , mapped-more (λ w. isLost (k w)) ws (c .loop-i .lost) i _ l (c .loop-i .inv .1) (c .loop-i .inv .3) (ap (λ (p : ℕ × Bool). p .1) e ∙ ap isLost d) )
+    , decoded-more orZero k ws (c .loop-i .bytes) i _ _ l (c .loop-i .inv .0) (c .loop-i .inv .2) (e .byte) d
+    , decoded-more isLost k ws (c .loop-i .lost) i _ _ l (c .loop-i .inv .1) (c .loop-i .inv .3) (e .mark) d )
 
 pub returns : need.returns
 returns g c =
@@ -29,5 +27,5 @@ returns g c =
     let p = eq-eqb (length (c .args .bytes .now)) (length ws) (c .if-bytes-words .left) in
     let q = eq-eqb (length (c .args .lost .now)) (length ws) (c .if-lost-words .left) in
     record { answer = sym (and-from _ _ p q)
-           ; held = mapped-all (λ w. orZero (k w)) ws (c .loop-i .bytes) (c .loop-i .i) l (c .loop-i .inv .0) (c .loop-i .inv .2)
-           ; marked = mapped-all (λ w. isLost (k w)) ws (c .loop-i .lost) (c .loop-i .i) l (c .loop-i .inv .1) (c .loop-i .inv .3) }
+           ; held = decoded-all orZero k ws (c .loop-i .bytes) (c .loop-i .i) l (c .loop-i .inv .0) (c .loop-i .inv .2)
+           ; marked = decoded-all isLost k ws (c .loop-i .lost) (c .loop-i .i) l (c .loop-i .inv .1) (c .loop-i .inv .3) }
