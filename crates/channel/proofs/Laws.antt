@@ -38,7 +38,7 @@ byteOf-finds xs (suc n) w j l e h =
     ⊎-elim
     (λ (q : getD xs n 0 % 1024 ≡ w). byteOf-hit xs n w q ∙ ap Some (h n (omega arith) q))
     (λ (q : getD xs n 0 % 1024 ≡ w → ⊥).
-        byteOf-miss xs n w q ∙ byteOf-finds xs n w j (⊎-elim (λ (s : j ≡ n). absurd (q (rw s at e))) (λ (s : j ≡ n → ⊥). omega arith) (cases-eq j n)) e (λ i il ie. h i (omega arith) ie))
+    byteOf-miss xs n w q ∙ byteOf-finds xs n w j (⊎-elim (λ (s : j ≡ n). absurd (q (rw s at e))) (λ (s : j ≡ n → ⊥). omega arith) (cases-eq j n)) e (λ i il ie. h i (omega arith) ie))
     (cases-eq (getD xs n 0 % 1024) w)
 
 -- a byte that is found has the word
@@ -48,8 +48,8 @@ byteOf-some xs (suc n) w b e =
     ⊎-elim
     (λ (q : getD xs n 0 % 1024 ≡ w). (n, omega arith, q, cc (byteOf-hit xs n w q)))
     (λ (q : getD xs n 0 % 1024 ≡ w → ⊥).
-        let r = byteOf-some xs n w b (sym (byteOf-miss xs n w q) ∙ e) in
-        (r .0, omega (arith, r .1), r .2, r .3))
+    let r = byteOf-some xs n w b (sym (byteOf-miss xs n w q) ∙ e) in
+    (r .0, omega (arith, r .1), r .2, r .3))
     (cases-eq (getD xs n 0 % 1024) w)
 
 -- where none is found, no number has the word
@@ -59,7 +59,7 @@ byteOf-none xs (suc n) w j e l q =
     ⊎-elim
     (λ (p : getD xs n 0 % 1024 ≡ w). let no : _≡_ {A = ℕ} 0 1 = cc (byteOf-hit xs n w p) in omega arith)
     (λ (p : getD xs n 0 % 1024 ≡ w → ⊥).
-        byteOf-none xs n w j (sym (byteOf-miss xs n w p) ∙ e) (⊎-elim (λ (s : j ≡ n). absurd (p (rw s at q))) (λ (s : j ≡ n → ⊥). omega arith) (cases-eq j n)) q)
+    byteOf-none xs n w j (sym (byteOf-miss xs n w p) ∙ e) (⊎-elim (λ (s : j ≡ n). absurd (p (rw s at q))) (λ (s : j ≡ n → ⊥). omega arith) (cases-eq j n)) q)
     (cases-eq (getD xs n 0 % 1024) w)
 
 -- where no number has the word, none is found
@@ -98,23 +98,23 @@ apart-more : (xs : List ℕ) (n : ℕ) → ApartTo xs n → ((j : ℕ) → j < n
 apart-more xs n a k i j (il, jl, e) =
     ⊎-elim
     (λ (p : i ≡ n). ⊎-elim
-        (λ (q : j ≡ n). ap (λ (m : ℕ). m / 2) (p ∙ sym q))
-        (λ (q : j ≡ n → ⊥). ap (λ (m : ℕ). m / 2) p ∙ sym (k j (omega arith) (sym e ∙ ap (λ (m : ℕ). getD xs m 0 % 1024) p)))
-        (cases-eq j n))
+    (λ (q : j ≡ n). ap (λ (m : ℕ). m / 2) (p ∙ sym q))
+    (λ (q : j ≡ n → ⊥). ap (λ (m : ℕ). m / 2) p ∙ sym (k j (omega arith) (sym e ∙ ap (λ (m : ℕ). getD xs m 0 % 1024) p)))
+    (cases-eq j n))
     (λ (p : i ≡ n → ⊥). ⊎-elim
-        (λ (q : j ≡ n). k i (omega arith) (e ∙ ap (λ (m : ℕ). getD xs m 0 % 1024) q) ∙ ap (λ (m : ℕ). m / 2) (sym q))
-        (λ (q : j ≡ n → ⊥). a i j (omega arith, omega arith, e))
-        (cases-eq j n))
+    (λ (q : j ≡ n). k i (omega arith) (e ∙ ap (λ (m : ℕ). getD xs m 0 % 1024) q) ∙ ap (λ (m : ℕ). m / 2) (sym q))
+    (λ (q : j ≡ n → ⊥). a i j (omega arith, omega arith, e))
+    (cases-eq j n))
     (cases-eq i n)
 
 filled-more : (bs : List (Option ℕ)) (xs : List ℕ) (n : ℕ) → length bs ≡ 1024 → Filled bs xs n → Filled (set bs (wordOf (getD xs n 0)) (Some (n / 2))) xs (n + 1)
 filled-more bs xs n z f w l =
     rw add-one (⊎-elim
     (λ (p : getD xs n 0 % 1024 ≡ w).
-        let t : getD xs n 0 % 1024 < length bs = omega arith in
-        ap (λ (m : ℕ). getD (set bs (getD xs n 0 % 1024) (Some (n / 2))) m None) (sym p) ∙ (getD-set-same bs (getD xs n 0 % 1024) (Some (n / 2)) None t ∙ sym (byteOf-hit xs n w p)))
+    let t : getD xs n 0 % 1024 < length bs = omega arith in
+    ap (λ (m : ℕ). getD (set bs (getD xs n 0 % 1024) (Some (n / 2))) m None) (sym p) ∙ (getD-set-same bs (getD xs n 0 % 1024) (Some (n / 2)) None t ∙ sym (byteOf-hit xs n w p)))
     (λ (p : getD xs n 0 % 1024 ≡ w → ⊥).
-        getD-set-other bs (getD xs n 0 % 1024) w (Some (n / 2)) None (λ q. p (sym q)) ∙ (f w l ∙ sym (byteOf-miss xs n w p)))
+    getD-set-other bs (getD xs n 0 % 1024) w (Some (n / 2)) None (λ q. p (sym q)) ∙ (f w l ∙ sym (byteOf-miss xs n w p)))
     (cases-eq (getD xs n 0 % 1024) w))
 
 -- one turn of the loop that fills the table
@@ -168,11 +168,11 @@ pub plain-decode : (xs : List ℕ) (w : ℕ) → PlainNumbers xs → sheetDecode
 plain-decode xs w p =
     ⊎-elim
     (λ (l : w < 256).
-        byteOf-finds xs (length xs) w (2 * w) (omega (arith, p .0)) (plain-word xs (2 * w) p (omega arith) ∙ omega arith) (λ i il ie. sym (plain-word xs i p (omega (arith, p .0))) ∙ (ie ∙ omega arith))
-        ∙ (ap Some (omega arith) ∙ sym (cond-true (ltb w 256) (Some w) None (lt-ltb w 256 l))))
+    byteOf-finds xs (length xs) w (2 * w) (omega (arith, p .0)) (plain-word xs (2 * w) p (omega arith) ∙ omega arith) (λ i il ie. sym (plain-word xs i p (omega (arith, p .0))) ∙ (ie ∙ omega arith))
+    ∙ (ap Some (omega arith) ∙ sym (cond-true (ltb w 256) (Some w) None (lt-ltb w 256 l))))
     (λ (l : 256 ≤ w).
-        byteOf-lacks xs (length xs) w (λ j jl e. omega (arith, p .0, plain-word xs j p (omega (arith, p .0))))
-        ∙ sym (cond-false (ltb w 256) (Some w) None (le-ltb w 256 l)))
+    byteOf-lacks xs (length xs) w (λ j jl e. omega (arith, p .0, plain-word xs j p (omega (arith, p .0))))
+    ∙ sym (cond-false (ltb w 256) (Some w) None (le-ltb w 256 l)))
     (cases-lt w 256)
 
 same-test : (w n : ℕ) → (w ≡ n → ⊥) → ltb w n ≡ ltb w (n + 1)

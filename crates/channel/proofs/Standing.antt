@@ -32,18 +32,20 @@ parts n h =
     (cases-lt n 1024)
 
 pub serve : GoodSheetsServe
-serve xs (z, n, a) s b h =
-    ( parts (getD xs (place s b) 0) (n (place s b) (omega (arith, place-below s b h)))
-    , mod-below (getD xs (place s b) 0) 1024 (lit< tt)
-    , sheet-back xs s b z a h )
+serve xs (z, n, a) s b h = (
+  parts (getD xs (place s b) 0) (n (place s b) (omega (arith, place-below s b h))),
+  mod-below (getD xs (place s b) 0) 1024 (lit< tt),
+  sheet-back xs s b z a h,
+)
 
 pub exact : DecodesNoMore
 exact xs w b (z, n, a) e =
     let r = byteOf-some xs (length xs) w b e in
-    let p = place-of (r .0) in
-    ( p .0
-    , omega (arith, r .1, r .3)
-    , ap (λ (m : ℕ). wordOf (getD xs (place (p .0) m) 0)) (sym (r .3)) ∙ (ap (λ (m : ℕ). wordOf (getD xs m 0)) (p .1) ∙ r .2) )
+    let p = place-of (r .0) in (
+      p .0,
+      omega (arith, r .1, r .3),
+      ap (λ (m : ℕ). wordOf (getD xs (place (p .0) m) 0)) (sym (r .3)) ∙ (ap (λ (m : ℕ). wordOf (getD xs m 0)) (p .1) ∙ r .2),
+    )
 
 -- what a decoding gives for the word at a place
 at-place : (xs : List ℕ) (decode : ℕ → Option ℕ) (i : ℕ) → i < 512 → ((s : State) (b : ℕ) → b < 256 → decode (sheetEncode xs s b .0) ≡ Some b) → decode (wordOf (getD xs i 0)) ≡ Some (i / 2)

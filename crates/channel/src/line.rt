@@ -3,7 +3,6 @@ ghost use Prim.Native.Nat.{ℕ, _<_};
 ghost use Rattle.std.specs.declared.option.Option.{Option};
 ghost use Rattle.std.specs.declared.option.Option.the-variants.{Some};
 ghost use Rattle.channel.specs.declared.state.State.{State};
-
 use crate::state::State;
 
 /// A line code: bytes as channel words, numbers from 0 to 1,023, with a state from word to word.

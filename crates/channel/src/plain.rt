@@ -1,5 +1,4 @@
 ghost use Rattle.channel.specs.Codes.{plainEncode, plainDecode};
-
 use crate::line::LineCode;
 use crate::state::State;
 

@@ -5,13 +5,17 @@ ghost use lib.ListN.{length};
 ghost use Rattle.std.specs.declared.option.Option.the-variants.{Some, None};
 ghost use Rattle.channel.specs.Stand.{SeriesComeBack};
 ghost use Rattle.channel.specs.Listed.{encodeAll, stateAfter, decodeAll, lostOf, orZero, isLost};
-
 use crate::line::LineCode;
 use crate::state::State;
 
 /// Encodes bytes in their order into as many words, each in the state that the word before it left, and gives the
 /// state after the last. Where there are not as many words as bytes, it gives none and writes nothing.
-pub fn encode_all<C: LineCode>(code: &C, state: State, bytes: &[u8], words: &mut [u16]) -> Option<State>
+pub fn encode_all<C: LineCode>(
+    code: &C,
+    state: State,
+    bytes: &[u8],
+    words: &mut [u16],
+) -> Option<State>
     ensures answer { λ r. ⌜ r ≡ cond (eqb (length (now (bytes .entry))) (length (now (words .entry)))) (Some (stateAfter (C·LineCode .encode (now (code .entry))) state (now (bytes .entry)))) None ⌝ }
     ensures held { λ _. ⌜ now (words .exit) ≡ cond (eqb (length (now (bytes .entry))) (length (now (words .entry)))) (encodeAll (C·LineCode .encode (now (code .entry))) state (now (bytes .entry))) (now (words .entry)) ⌝ }
 {
@@ -62,5 +66,4 @@ fn byte_or_zero(byte: Option<u8>) -> (u8, bool)
 /// What one series of bytes becomes, encoded and decoded: the same bytes, none of them lost.
 pub fn series_stand()
     ensures { λ _. ⌜ SeriesComeBack ⌝ }
-{
-}
+{}

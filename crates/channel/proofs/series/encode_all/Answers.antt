@@ -12,15 +12,18 @@ loop-i-again g c =
     let bs = c .args .bytes .now in
     let i = c .loop-i .i in
     let r = c .encode-word .result in
-    let e = c .encode-word .ensures in
-    ( length-set _ _ _ ∙ c .loop-i .inv .0
-    , words-more f bs (c .loop-i .words) _ (c .loop-i .current) i r e (c .loop-i-test .taken) (c .loop-i .inv .0) (c .loop-i .inv .1)
-    , state-more f bs (c .loop-i .current) _ i r e (c .loop-i-test .taken) (c .loop-i .inv .2) )
+    let e = c .encode-word .ensures in (
+      length-set _ _ _ ∙ c .loop-i .inv .0,
+      words-more f bs (c .loop-i .words) _ (c .loop-i .current) i r e (c .loop-i-test .taken) (c .loop-i .inv .0) (c .loop-i .inv .1),
+      state-more f bs (c .loop-i .current) _ i r e (c .loop-i-test .taken) (c .loop-i .inv .2),
+    )
 
 pub returns : need.returns
 returns g c =
     let f = g .C·LineCode .encode (c .args .code .now) in
     let bs = c .args .bytes .now in
     let t = eq-eqb (length bs) (length (c .args .words .now)) (c .if-bytes-words .left) in
-    record { answer = ap Some (state-all f bs (c .loop-i .current) _ (c .loop-i .i) (c .loop-i-test .left) (c .loop-i .inv .2)) ∙ sym (cond-true _ _ _ t)
-           ; held = words-all f bs (c .loop-i .words) _ (c .loop-i .current) (c .loop-i .i) (c .loop-i-test .left) (c .loop-i .inv .0) (c .loop-i .inv .1) ∙ sym (cond-true _ _ _ t) }
+    record {
+      answer = ap Some (state-all f bs (c .loop-i .current) _ (c .loop-i .i) (c .loop-i-test .left) (c .loop-i .inv .2)) ∙ sym (cond-true _ _ _ t);
+      held = words-all f bs (c .loop-i .words) _ (c .loop-i .current) (c .loop-i .i) (c .loop-i-test .left) (c .loop-i .inv .0) (c .loop-i .inv .1) ∙ sym (cond-true _ _ _ t);
+    }

@@ -10,5 +10,7 @@ ghost-result c =
 
 pub returns : need.returns
 returns c =
-    record { words = λ s b h. plain-encode (c .plain-numbers .result) s b (c .plain-numbers .ensures) h
-           ; bytes = λ w. plain-decode (c .plain-numbers .result) w (c .plain-numbers .ensures) }
+    record {
+      words = λ s b h. plain-encode (c .plain-numbers .result) s b (c .plain-numbers .ensures) h;
+      bytes = λ w. plain-decode (c .plain-numbers .result) w (c .plain-numbers .ensures);
+    }

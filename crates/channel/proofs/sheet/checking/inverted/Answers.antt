@@ -6,10 +6,11 @@ use Rattle.channel.proofs.Laws.{byteOf-start, table-more, table-shared}
 use Rattle.channel.proofs.sheet.checking.inverted.Needs as need
 
 pub loop-i-holds : need.loop-i-holds
-loop-i-holds c =
-    ( refl
-    , λ w l. getD-replicate 1024 w None None l ∙ sym (byteOf-start (c .args .numbers .now) w)
-    , λ i j (il, jl, e). absurd (let no : ⊥ = omega arith in no) )
+loop-i-holds c = (
+  refl,
+  λ w l. getD-replicate 1024 w None None l ∙ sym (byteOf-start (c .args .numbers .now) w),
+  λ i j (il, jl, e). absurd (let no : ⊥ = omega arith in no),
+)
 
 pub returns-then-not-is-free : need.returns-then-not-is-free
 returns-then-not-is-free c =

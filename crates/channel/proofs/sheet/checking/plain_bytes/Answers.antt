@@ -12,6 +12,7 @@ loop-word-holds c =
     (refl, λ w l. getD-replicate 1024 w None None l ∙ sym (cond-false (ltb w 0) (Some w) None (le-ltb w 0 (omega arith))))
 
 pub loop-word-again : need.loop-word-again
-loop-word-again c =
-    ( length-set _ _ _ ∙ c .loop-word .inv .0
-    , plain-more (c .loop-word .bytes) (c .loop-word .word) (omega (arith, c .loop-word .inv .0)) (c .loop-word .inv .1) )
+loop-word-again c = (
+  length-set _ _ _ ∙ c .loop-word .inv .0,
+  plain-more (c .loop-word .bytes) (c .loop-word .word) (omega (arith, c .loop-word .inv .0)) (c .loop-word .inv .1),
+)

@@ -6,6 +6,7 @@ use Rattle.std.proofs.shelf.Edits.{fill-by-more}
 use Rattle.channel.proofs.sheet.checking.plain_numbers.Needs as need
 
 pub loop-i-again : need.loop-i-again
-loop-i-again c =
-    ( length-set _ _ _ ∙ c .loop-i .inv .0
-    , fill-by-more (λ (k : ℕ). k / 2 + 1024) (c .loop-i .numbers) (c .loop-i .i) 0 (omega (arith, c .loop-i .inv .0)) (c .loop-i .inv .1) )
+loop-i-again c = (
+  length-set _ _ _ ∙ c .loop-i .inv .0,
+  fill-by-more (λ (k : ℕ). k / 2 + 1024) (c .loop-i .numbers) (c .loop-i .i) 0 (omega (arith, c .loop-i .inv .0)) (c .loop-i .inv .1),
+)
