@@ -6,9 +6,10 @@ use Prim.Native.Nat.{ℕ, zero, suc, _+_, _-_, _*_, _/_, _<_, _≤_}
 use native.Mathlib.Omega.{arith}
 use native.Mathlib.Nat.{mul-le-mul-right, suc-mul, div-mul-le-self}
 use borrow.Author.Needs.{needs}
+use borrow.Rule.Slice.PartMut.{putMid}
 use lib.ListN.{length, getD, set, take, drop}
 use lib.Seq.{paste}
-use Rattle.std.proofs.shelf.Lists.{length-take, length-take-le, length-drop, getD-take, getD-drop, ext-getD, places, append-assoc, drop-at, take-at, take-all}
+use Rattle.std.proofs.shelf.Lists.{length-take, length-take-le, length-drop, getD-take, getD-drop, ext-getD, places, append-assoc, drop-at, drop-drop, drop-set-lt, drop-take, take-at, take-all, take-more-set}
 use Rattle.std.proofs.shelf.Tests.{cases-order}
 use Rattle.tape.specs.Images.{part}
 
@@ -56,3 +57,23 @@ part-paste s xs ys k h e =
     ap (λ (zs : List ℕ). take s (drop (k * s) zs)) (append-assoc (take (k * s) xs) (take s ys) (drop (k * s + s) xs))
     ∙ (ap (take s) (drop-at (take (k * s) xs) (take s ys ++ drop (k * s + s) xs) (k * s) a)
     ∙ (take-at (take s ys) (drop (k * s + s) xs) s (ap length y ∙ e) ∙ y))
+
+-- the write of a first number, and of others behind it
+pub paste-flag : (xs ys : List ℕ) (v at n s : ℕ) → n + 1 ≡ s → at + s ≤ length xs → length ys ≡ n
+    → putMid (at + 1) n (set xs at v) ys ≡ paste xs at (v ∷ ys) s
+paste-flag xs ys v at n s e f l =
+    let front : take (at + 1) (set xs at v) ≡ take at xs ++ v ∷ [] = take-more-set xs at v (omega arith) in
+    let p : at + 1 + n ≡ at + s = omega arith in
+    let rest : drop n (drop (at + 1) (set xs at v)) ≡ drop (at + s) xs
+          = ap (drop n) (drop-set-lt (at + 1) xs at v (omega arith)) ∙ (drop-drop n (at + 1) xs ∙ ap (λ (q : ℕ). drop q xs) p) in
+    let all : take s (v ∷ ys) ≡ v ∷ ys = take-all s (v ∷ ys) (omega arith) in
+    ap (λ (a : List ℕ). a ++ (ys ++ drop n (drop (at + 1) (set xs at v)))) front
+    ∙ (ap (λ (a : List ℕ). (take at xs ++ v ∷ []) ++ (ys ++ a)) rest
+    ∙ (append-assoc (take at xs) (v ∷ []) (ys ++ drop (at + s) xs)
+    ∙ sym (ap (λ (a : List ℕ). (take at xs ++ a) ++ drop (at + s) xs) all ∙ append-assoc (take at xs) (v ∷ ys) (drop (at + s) xs))))
+
+-- what is read behind the first number of a part
+pub part-rest : (s : ℕ) (xs : List ℕ) (k n : ℕ) → n + 1 ≡ s → take n (drop (k * s + 1) xs) ≡ drop 1 (part s xs k)
+part-rest s xs k n e =
+    let o : s ≡ 1 + n = omega arith in
+    sym (ap (λ (q : ℕ). drop 1 (take q (drop (k * s) xs))) o ∙ (drop-take 1 n (drop (k * s) xs) ∙ ap (take n) (drop-drop 1 (k * s) xs)))

@@ -12,10 +12,12 @@ use lib.Seq.{paste}
 use Rattle.std.specs.Iters.{counting}
 use Rattle.std.proofs.shelf.Counted.{length-map-counting, getD-map-counting}
 use Rattle.std.proofs.shelf.Lists.{length-set, getD-set-same, getD-set-other, ext-getD}
-use Rattle.std.proofs.shelf.Tests.{cases-eq}
+use Rattle.std.proofs.shelf.Tests.{cases-eq, ne-eqb}
 use Rattle.std.specs.declared.option.Option.the-variants.{Some, None}
 use Rattle.std.specs.declared.result.Result.the-variants.{Ok, Err}
-use Rattle.tape.specs.Tape.{Track, Sound, SoundTrack, outcome, storing, stored, blanking, blanked}
+use Rattle.tape.specs.declared.fault.TapeFault.{TapeFault}
+use Rattle.tape.specs.declared.fault.TapeFault.the-variants.{Blank}
+use Rattle.tape.specs.Tape.{Track, Sound, SoundTrack, reached, fetched, delivered, outcome, storing, stored, blanking, blanked}
 use Rattle.tape.specs.Images.{part, trackOf, imageTracks, imageStored, imageBlanked}
 use Rattle.tape.proofs.Answering.{outcome-ap, outcome-same, storing-ok, blanking-ok}
 use Rattle.tape.proofs.Cutting.{room, apart, length-part, getD-part, part-same, paste-length, paste-below, paste-above, part-paste}
@@ -89,3 +91,27 @@ module _ (s : ℕ) (pos : 0 < s) (w : List ℕ → List ℕ) where
       let c = part s m k in
       let e : length c ≡ s = length-part s m k (room s (length m) k l′) in
       rw (get-image m k l′) (elim (eqb (getD c 0 0) 1) as (λ b. SoundTrack (cond b (Some (w (drop 1 c))) None)) [ true ↦ h c e | false ↦ tt ])
+
+  -- what fetch answers and delivers where a test declines, where the track is blank, and where it is written
+  pub fetch-declined : (m : List ℕ) (k : ℕ) (buf : List ℕ) (e : TapeFault) → reached (length m / s) k (length buf) ≡ Err e
+      → (fetched (imageTracks s w m) k (length buf) ≡ Err e) × (delivered (imageTracks s w m) k buf ≡ buf)
+  fetch-declined m k buf e h =
+      let a : fetched (imageTracks s w m) k (length buf) ≡ Err e = rw (length-image m, h) in
+      (a, rw a)
+
+  pub fetch-blank : (m : List ℕ) (k : ℕ) (buf : List ℕ) → reached (length m / s) k (length buf) ≡ Ok tt → k < length m / s → (getD m (k * s) 0 ≡ 1 → ⊥)
+      → (fetched (imageTracks s w m) k (length buf) ≡ Err Blank) × (delivered (imageTracks s w m) k buf ≡ buf)
+  fetch-blank m k buf h l ne =
+      let z : getD (part s m k) 0 0 ≡ getD m (k * s) 0 = getD-part s m k 0 pos ∙ ap (λ (p : ℕ). getD m p 0) (add-zero (k * s)) in
+      let b : eqb (getD (part s m k) 0 0) 1 ≡ false = ne-eqb _ _ (λ q. ne (sym z ∙ q)) in
+      let t : getD (imageTracks s w m) k None ≡ None = get-image m k l ∙ rw b in
+      let a : fetched (imageTracks s w m) k (length buf) ≡ Err Blank = rw (length-image m, h, t) in
+      (a, rw a)
+
+  pub fetch-done : (m : List ℕ) (k : ℕ) (buf : List ℕ) → reached (length m / s) k (length buf) ≡ Ok tt → k < length m / s → getD m (k * s) 0 ≡ 1
+      → (fetched (imageTracks s w m) k (length buf) ≡ Ok tt) × (delivered (imageTracks s w m) k buf ≡ w (drop 1 (part s m k)))
+  fetch-done m k buf h l one =
+      let z : getD (part s m k) 0 0 ≡ 1 = getD-part s m k 0 pos ∙ (ap (λ (p : ℕ). getD m p 0) (add-zero (k * s)) ∙ one) in
+      let t : getD (imageTracks s w m) k None ≡ Some (w (drop 1 (part s m k))) = get-image m k l ∙ rw z in
+      let a : fetched (imageTracks s w m) k (length buf) ≡ Ok tt = rw (length-image m, h, t) in
+      (a, rw (a, t))

@@ -1,3 +1,4 @@
 mod Answering
 mod Cutting
 mod Imaging
+mod Wording
