@@ -2,3 +2,5 @@ mod Answering
 mod Cutting
 mod Imaging
 mod Wording
+mod Chaining
+mod Packing

@@ -7,4 +7,6 @@ mod checks;
 pub mod fault;
 pub mod lent;
 pub mod traits;
+pub mod inhibited;
+pub mod packed_image;
 pub mod word_image;
