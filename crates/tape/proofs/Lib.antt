@@ -4,3 +4,4 @@ mod Imaging
 mod Wording
 mod Chaining
 mod Packing
+mod Windowing

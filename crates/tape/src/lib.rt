@@ -9,4 +9,5 @@ pub mod lent;
 pub mod traits;
 pub mod inhibited;
 pub mod packed_image;
+pub mod window;
 pub mod word_image;
