@@ -1,0 +1,7 @@
+mod Answering
+mod Cutting
+mod Imaging
+mod Wording
+mod Chaining
+mod Packing
+mod Windowing

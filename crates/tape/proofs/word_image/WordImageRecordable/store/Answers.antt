@@ -1,0 +1,17 @@
+use mathlib.Core.Path.{refl, ap, _∙_}
+use mathlib.Core.List.{map}
+use lib.Dec.{lit<}
+use Rattle.tape.specs.Images.{capped, wordTracks}
+use Rattle.tape.proofs.Imaging.{length-image}
+use Rattle.tape.proofs.Wording.{word-stored}
+use Rattle.tape.proofs.word_image.WordImageRecordable.store.Needs as need
+
+pub returns : need.returns
+returns c =
+    let m = c .args .self .now .memory .now in
+    let e = c .store-words .ensures in
+    record
+    { answer = e .answer ∙ rw (length-image 4609 (lit< tt) (map capped) m)
+    ; kept = refl
+    ; tape = ap wordTracks (e .memory) ∙ word-stored m (c .args .track) (c .args .buffer .now)
+    ; memory = e .memory }

@@ -1,0 +1,4 @@
+pub mod Faults
+pub mod Tape
+pub mod Images
+pub mod Windows
