@@ -1,5 +1,5 @@
 ghost use mathlib.Core.Path.{_≡_};
-ghost use mathlib.Core.Bool.{Bool, true, false, cond, _&&_};
+ghost use mathlib.Core.Bool.{cond, _&&_};
 ghost use lib.Dec.{eqb};
 ghost use lib.ListN.{length};
 ghost use Rattle.std.specs.declared.option.Option.the-variants.{Some, None};
@@ -23,8 +23,8 @@ pub fn encode_all<C: LineCode>(
         return None;
     }
     let mut current = state;
-    for i in 0..bytes.len() {
-        let (word, next) = code.encode(current, bytes[i]);
+    for (i, byte) in bytes.iter().enumerate() {
+        let (word, next) = code.encode(current, *byte);
         words[i] = word;
         current = next;
     }
@@ -44,8 +44,8 @@ pub fn decode_all<C: LineCode>(code: &C, words: &[u16], bytes: &mut [u8], lost: 
     if lost.len() != words.len() {
         return false;
     }
-    for i in 0..words.len() {
-        let (byte, gone) = byte_or_zero(code.decode(words[i]));
+    for (i, word) in words.iter().enumerate() {
+        let (byte, gone) = byte_or_zero(code.decode(*word));
         bytes[i] = byte;
         lost[i] = gone;
     }
