@@ -3,7 +3,7 @@ ghost use mathlib.Core.Bool.{cond, _&&_};
 ghost use lib.Dec.{eqb};
 ghost use lib.ListN.{length};
 ghost use Rattle.std.specs.declared.option.Option.the-variants.{Some, None};
-ghost use Rattle.channel.specs.Stand.{SeriesComeBack};
+ghost use Rattle.channel.specs.Stand.{SeriesComeBack, SeriesFit, SeriesJoin};
 ghost use Rattle.channel.specs.Listed.{encodeAll, stateAfter, decodeAll, lostOf, orZero, isLost};
 use crate::line::LineCode;
 use crate::state::State;
@@ -63,7 +63,10 @@ fn byte_or_zero(byte: Option<u8>) -> (u8, bool)
     }
 }
 
-/// What one series of bytes becomes, encoded and decoded: the same bytes, none of them lost.
+/// What holds of every series: encoded and decoded it is the same again with nothing lost, its words are as many as its
+/// bytes and have ten bits, and it may be encoded in parts.
 pub fn series_stand()
-    ensures { λ _. ⌜ SeriesComeBack ⌝ }
+    ensures back { λ _. ⌜ SeriesComeBack ⌝ }
+    ensures fit { λ _. ⌜ SeriesFit ⌝ }
+    ensures join { λ _. ⌜ SeriesJoin ⌝ }
 {}
