@@ -22,7 +22,8 @@ returns-in-Some g c =
     record
     { answer = c .blank .ensures .answer ∙ (ap (λ (p : ℕ). blanking (length ts) p) (e .0) ∙ blanking-in (s .first) (s .count) k ts (e .1) l)
     ; kept = cc (before, after)
-    ; tape = ap (windowTracks (s .first) (s .count)) same ∙ (changed-in (s .first) (s .count) k ts (e .1) l r None ∙ rw (blanking-in (s .first) (s .count) k ts (e .1) l)) }
+    ; tape = ap (windowTracks (s .first) (s .count)) same ∙ (changed-in (s .first) (s .count) k ts (e .1) l r None ∙ rw (blanking-in (s .first) (s .count) k ts (e .1) l))
+    ; below = same ∙ rw (blanking-in (s .first) (s .count) k ts (e .1) l) }
 
 pub returns-in-None : need.returns-in-None
 returns-in-None g c =
@@ -30,4 +31,4 @@ returns-in-None g c =
     let ts = g .T·Playable .tracks (s .below) in
     let m : min (s .count) (length ts - s .first) ≤ c .args .track = rw (c .length .ensures .answer) at (c .in-None .ensures tt) in
     let a = blanking-out (s .first) (s .count) (c .args .track) ts m in
-    record { answer = sym a; kept = refl; tape = sym (rw a) }
+    record { answer = sym a; kept = refl; tape = sym (rw a); below = sym (rw a) }

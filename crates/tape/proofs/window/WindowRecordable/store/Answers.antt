@@ -23,7 +23,8 @@ returns-in-Some g c =
     record
     { answer = c .store .ensures .answer ∙ (ap (λ (p : ℕ). storing (length ts) p b) (e .0) ∙ storing-in (s .first) (s .count) k ts (e .1) l b)
     ; kept = cc (before, after)
-    ; tape = ap (windowTracks (s .first) (s .count)) same ∙ (changed-in (s .first) (s .count) k ts (e .1) l r (Some b) ∙ rw (storing-in (s .first) (s .count) k ts (e .1) l b)) }
+    ; tape = ap (windowTracks (s .first) (s .count)) same ∙ (changed-in (s .first) (s .count) k ts (e .1) l r (Some b) ∙ rw (storing-in (s .first) (s .count) k ts (e .1) l b))
+    ; below = same ∙ rw (storing-in (s .first) (s .count) k ts (e .1) l b) }
 
 pub returns-in-None : need.returns-in-None
 returns-in-None g c =
@@ -31,4 +32,4 @@ returns-in-None g c =
     let ts = g .T·Playable .tracks (s .below) in
     let m : min (s .count) (length ts - s .first) ≤ c .args .track = rw (c .length .ensures .answer) at (c .in-None .ensures tt) in
     let a = storing-out (s .first) (s .count) (c .args .track) ts m (c .args .buffer .now) (c .if-buffer-ne-WORDS .left) in
-    record { answer = sym a; kept = refl; tape = sym (rw a) }
+    record { answer = sym a; kept = refl; tape = sym (rw a); below = sym (rw a) }
