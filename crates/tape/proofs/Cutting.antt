@@ -65,7 +65,7 @@ paste-flag xs ys v at n s e f l =
     let front : take (at + 1) (set xs at v) ≡ take at xs ++ v ∷ [] = take-more-set xs at v (omega arith) in
     let p : at + 1 + n ≡ at + s = omega arith in
     let rest : drop n (drop (at + 1) (set xs at v)) ≡ drop (at + s) xs
-          = ap (drop n) (drop-set-lt (at + 1) xs at v (omega arith)) ∙ (drop-drop n (at + 1) xs ∙ ap (λ (q : ℕ). drop q xs) p) in
+    = ap (drop n) (drop-set-lt (at + 1) xs at v (omega arith)) ∙ (drop-drop n (at + 1) xs ∙ ap (λ (q : ℕ). drop q xs) p) in
     let all : take s (v ∷ ys) ≡ v ∷ ys = take-all s (v ∷ ys) (omega arith) in
     ap (λ (a : List ℕ). a ++ (ys ++ drop n (drop (at + 1) (set xs at v)))) front
     ∙ (ap (λ (a : List ℕ). (take at xs ++ v ∷ []) ++ (ys ++ a)) rest

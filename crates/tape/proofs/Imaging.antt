@@ -41,15 +41,15 @@ module _ (s : ℕ) (pos : 0 < s) (w : List ℕ → List ℕ) where
       let n : length (set (imageTracks s w m) k t) ≡ length m / s = length-set (imageTracks s w m) k t ∙ length-image m in
       ext-getD None (imageTracks s w m′) (set (imageTracks s w m) k t) (n′ ∙ sym n)
       (λ i il.
-        let i1 : i < length m / s = omega arith in
-        let i2 : i < length m′ / s = rw e i1 in
-        let kl : k < length (imageTracks s w m) = omega (arith, length-image m) in
-        get-image m′ i i2 ∙ ⊎-elim
-          (λ (q : i ≡ k). rw q (sym (getD-set-same (imageTracks s w m) k t None kl)))
-          (λ (q : i ≡ k → ⊥).
-            ap (trackOf w) (part-same s m m′ i e (λ j jl. h (i * s + j) (⊎-elim (λ (b : i * s + s ≤ k * s). inl (omega arith)) (λ (b : k * s + s ≤ i * s). inr (omega arith)) (apart s i k q))))
-            ∙ sym (getD-set-other (imageTracks s w m) k i t None q ∙ get-image m i i1))
-          (cases-eq i k))
+      let i1 : i < length m / s = omega arith in
+      let i2 : i < length m′ / s = rw e i1 in
+      let kl : k < length (imageTracks s w m) = omega (arith, length-image m) in
+      get-image m′ i i2 ∙ ⊎-elim
+      (λ (q : i ≡ k). rw q (sym (getD-set-same (imageTracks s w m) k t None kl)))
+      (λ (q : i ≡ k → ⊥).
+      ap (trackOf w) (part-same s m m′ i e (λ j jl. h (i * s + j) (⊎-elim (λ (b : i * s + s ≤ k * s). inl (omega arith)) (λ (b : k * s + s ≤ i * s). inr (omega arith)) (apart s i k q))))
+      ∙ sym (getD-set-other (imageTracks s w m) k i t None q ∙ get-image m i i1))
+      (cases-eq i k))
 
   -- a blank of an image is a blank of its tape
   pub image-blanked : (m : List ℕ) (k : ℕ) → imageTracks s w (imageBlanked s m k) ≡ blanked (imageTracks s w m) k

@@ -103,5 +103,5 @@ pub packed-stored : (m : List ℕ) (k : ℕ) (buf : List ℕ) → packedTracks (
 packed-stored m k buf =
     image-stored 5761 (lit< tt) unpacked packed m k buf
     (λ ok.
-      let t = storing-ok (length m / 5761) k buf ok in
-      (omega (arith, packed-long buf), unpacked-packed buf (t .0) (λ j l. narrow-get buf j (t .2) l)))
+    let t = storing-ok (length m / 5761) k buf ok in
+    (omega (arith, packed-long buf), unpacked-packed buf (t .0) (λ j l. narrow-get buf j (t .2) l)))

@@ -1,7 +1,6 @@
 ghost use mathlib.Core.Path.{_≡_};
 ghost use base.Fml.{GName};
 ghost use denote.Ref.{name, now as behind};
-
 use crate::fault::TapeFault;
 use crate::traits::Playable;
 use crate::traits::Recordable;

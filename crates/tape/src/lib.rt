@@ -5,9 +5,9 @@
 
 mod checks;
 pub mod fault;
-pub mod lent;
-pub mod traits;
 pub mod inhibited;
+pub mod lent;
 pub mod packed_image;
+pub mod traits;
 pub mod window;
 pub mod word_image;

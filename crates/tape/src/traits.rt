@@ -2,11 +2,13 @@ ghost use mathlib.Core.Path.{_≡_};
 ghost use mathlib.Core.List.{List};
 ghost use lib.ListN.{length};
 ghost use Rattle.tape.specs.Tape.{Track, Sound, fetched, delivered, storing, stored, blanking, blanked};
-
 use crate::fault::TapeFault;
 
 /// How many channel words a track has, and so how many numbers a track buffer.
 pub const WORDS: usize = 4608;
+
+/// Every channel word is below this number.
+pub const WORD_LIMIT: u16 = 1024;
 
 /// A tape that can be played: a fixed number of tracks, each blank or 4,608 words below 1,024.
 pub trait Playable {

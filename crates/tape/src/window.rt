@@ -5,7 +5,6 @@ ghost use lib.ListN.{length};
 ghost use Rattle.std.specs.Options.{Cases as BySome};
 ghost use Rattle.tape.specs.Tape.{storing, stored, blanking, blanked};
 ghost use Rattle.tape.specs.Windows.{shown, storedBelow, blankedBelow, WindowRest, restOf};
-
 use crate::fault::TapeFault;
 use crate::traits::Playable;
 use crate::traits::Recordable;
@@ -34,7 +33,10 @@ pub impl<T: Playable> Playable for Window<T> as WindowPlayable {
     ghost tracks = { shown (T·Playable .tracks) };
 
     fn length(&self) -> usize {
-        self.below.length().saturating_sub(self.first).min(self.count)
+        self.below
+            .length()
+            .saturating_sub(self.first)
+            .min(self.count)
     }
 
     fn fetch(&self, track: usize, buffer: &mut [u16]) -> Result<(), TapeFault> {

@@ -6,8 +6,8 @@ use lib.ListN.{length}
 use Rattle.tape.proofs.Answering.{narrow-none, narrow-more, narrow-not}
 use Rattle.tape.proofs.checks.all_narrow.Needs as need
 
-pub returns-then-w-ge1024 : need.returns-then-w-ge1024
-returns-then-w-ge1024 c =
+pub returns-then-w-ge-WORD-LIMIT : need.returns-then-w-ge-WORD-LIMIT
+returns-then-w-ge-WORD-LIMIT c =
     let l : c .loop-w .w-index < length (c .args .words .now) = omega arith in
     sym (c .loop-w .inv ∙ narrow-not (c .args .words .now) (c .loop-w .w-index) l (search needs))
 

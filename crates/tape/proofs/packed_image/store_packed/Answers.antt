@@ -18,6 +18,7 @@ returns c =
     let at = c .args .track * 5761 in
     let f : at + 5761 ≤ length m = room 5761 (length m) (c .args .track) (h .within .1) in
     let l : length (packed b) ≡ at + 5761 - (at + 1) = omega (arith, packed-long b) in
-    record
-    { answer = h .answer
-    ; memory = ap (putMid (at + 1) (at + 5761 - (at + 1)) (set m at 1)) (c .pack .ensures) ∙ (paste-flag m (packed b) 1 at (at + 5761 - (at + 1)) 5761 (omega arith) f l ∙ rw (sym (h .answer))) }
+    record {
+      answer = h .answer;
+      memory = ap (putMid (at + 1) (at + 5761 - (at + 1)) (set m at 1)) (c .pack .ensures) ∙ (paste-flag m (packed b) 1 at (at + 5761 - (at + 1)) 5761 (omega arith) f l ∙ rw (sym (h .answer)));
+    }

@@ -16,6 +16,7 @@ returns c =
     let at = c .args .track * 4609 in
     let f : at + 4609 ≤ length m = room 4609 (length m) (c .args .track) (h .within .1) in
     let l : length b ≡ at + 4609 - (at + 1) = omega (arith, h .within .0) in
-    record
-    { answer = h .answer
-    ; memory = ap (putMid (at + 1) (at + 4609 - (at + 1)) (set m at 1)) (c .copy-from-slice .ensures .after) ∙ (paste-flag m b 1 at (at + 4609 - (at + 1)) 4609 (omega arith) f l ∙ rw (sym (h .answer))) }
+    record {
+      answer = h .answer;
+      memory = ap (putMid (at + 1) (at + 4609 - (at + 1)) (set m at 1)) (c .copy-from-slice .ensures .after) ∙ (paste-flag m b 1 at (at + 4609 - (at + 1)) 4609 (omega arith) f l ∙ rw (sym (h .answer)));
+    }

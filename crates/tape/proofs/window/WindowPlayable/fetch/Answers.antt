@@ -20,10 +20,11 @@ returns-in-Some g c =
     let ts = g .T·Playable .tracks (s .below) in
     let e = c .in-Some .ensures tt in
     let l : s .first + c .args .track < length ts = omega (arith, e .0, e .2, c .length-length .ensures .answer) in
-    record
-    { answer = c .fetch .ensures .answer ∙ (ap (λ (p : ℕ). fetched ts p (length (c .args .buffer .now))) (e .0) ∙ fetched-in (s .first) (s .count) (c .args .track) ts (e .1) l (length (c .args .buffer .now)))
-    ; words = c .fetch .ensures .words ∙ (ap (λ (p : ℕ). delivered ts p (c .args .buffer .now)) (e .0) ∙ delivered-in (s .first) (s .count) (c .args .track) ts (e .1) l (c .args .buffer .now))
-    ; sound = window-sound (s .first) (s .count) ts (c .fetch .ensures .sound) }
+    record {
+      answer = c .fetch .ensures .answer ∙ (ap (λ (p : ℕ). fetched ts p (length (c .args .buffer .now))) (e .0) ∙ fetched-in (s .first) (s .count) (c .args .track) ts (e .1) l (length (c .args .buffer .now)));
+      words = c .fetch .ensures .words ∙ (ap (λ (p : ℕ). delivered ts p (c .args .buffer .now)) (e .0) ∙ delivered-in (s .first) (s .count) (c .args .track) ts (e .1) l (c .args .buffer .now));
+      sound = window-sound (s .first) (s .count) ts (c .fetch .ensures .sound);
+    }
 
 pub returns-in-None : need.returns-in-None
 returns-in-None g c =

@@ -19,11 +19,12 @@ returns-in-Some g c =
     let same = c .blank .ensures .tape ∙ ap (λ (p : ℕ). blanked ts p) (e .0) in
     let before = ap (take (s .first)) same ∙ changed-before (s .first) (s .count) k ts (e .1) l r None in
     let after = ap (drop (s .first + s .count)) same ∙ changed-after (s .first) (s .count) k ts (e .1) l r None in
-    record
-    { answer = c .blank .ensures .answer ∙ (ap (λ (p : ℕ). blanking (length ts) p) (e .0) ∙ blanking-in (s .first) (s .count) k ts (e .1) l)
-    ; kept = cc (before, after)
-    ; tape = ap (windowTracks (s .first) (s .count)) same ∙ (changed-in (s .first) (s .count) k ts (e .1) l r None ∙ rw (blanking-in (s .first) (s .count) k ts (e .1) l))
-    ; below = same ∙ rw (blanking-in (s .first) (s .count) k ts (e .1) l) }
+    record {
+      answer = c .blank .ensures .answer ∙ (ap (λ (p : ℕ). blanking (length ts) p) (e .0) ∙ blanking-in (s .first) (s .count) k ts (e .1) l);
+      kept = cc (before, after);
+      tape = ap (windowTracks (s .first) (s .count)) same ∙ (changed-in (s .first) (s .count) k ts (e .1) l r None ∙ rw (blanking-in (s .first) (s .count) k ts (e .1) l));
+      below = same ∙ rw (blanking-in (s .first) (s .count) k ts (e .1) l);
+    }
 
 pub returns-in-None : need.returns-in-None
 returns-in-None g c =

@@ -20,11 +20,12 @@ returns-in-Some g c =
     let same = c .store .ensures .tape ∙ ap (λ (p : ℕ). stored ts p b) (e .0) in
     let before = ap (take (s .first)) same ∙ changed-before (s .first) (s .count) k ts (e .1) l r (Some b) in
     let after = ap (drop (s .first + s .count)) same ∙ changed-after (s .first) (s .count) k ts (e .1) l r (Some b) in
-    record
-    { answer = c .store .ensures .answer ∙ (ap (λ (p : ℕ). storing (length ts) p b) (e .0) ∙ storing-in (s .first) (s .count) k ts (e .1) l b)
-    ; kept = cc (before, after)
-    ; tape = ap (windowTracks (s .first) (s .count)) same ∙ (changed-in (s .first) (s .count) k ts (e .1) l r (Some b) ∙ rw (storing-in (s .first) (s .count) k ts (e .1) l b))
-    ; below = same ∙ rw (storing-in (s .first) (s .count) k ts (e .1) l b) }
+    record {
+      answer = c .store .ensures .answer ∙ (ap (λ (p : ℕ). storing (length ts) p b) (e .0) ∙ storing-in (s .first) (s .count) k ts (e .1) l b);
+      kept = cc (before, after);
+      tape = ap (windowTracks (s .first) (s .count)) same ∙ (changed-in (s .first) (s .count) k ts (e .1) l r (Some b) ∙ rw (storing-in (s .first) (s .count) k ts (e .1) l b));
+      below = same ∙ rw (storing-in (s .first) (s .count) k ts (e .1) l b);
+    }
 
 pub returns-in-None : need.returns-in-None
 returns-in-None g c =
