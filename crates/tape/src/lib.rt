@@ -8,6 +8,7 @@ pub mod fault;
 pub mod inhibited;
 pub mod lent;
 pub mod packed_image;
+pub mod shared;
 pub mod traits;
 pub mod window;
 pub mod word_image;
