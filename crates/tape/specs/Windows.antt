@@ -19,20 +19,23 @@ windowStored first count ts k buf =
 abbrev pub windowBlanked : ℕ → ℕ → List Track → ℕ → List Track
 windowBlanked first count ts k = outcome (blanking (length (windowTracks first count ts)) k) (set ts (first + k) None) ts
 
--- the same of a window, given what the tracks of a tape below are
+-- the tracks of a window, where `tracks` gives those of the tape below
 abbrev pub shown : {X : Type 0} → (X → List Track) → Window X → List Track
 shown tracks w = windowTracks (w .first) (w .count) (tracks (w .below))
 
+-- the tracks of the tape below after a store through a window
 abbrev pub storedBelow : {X : Type 0} → (X → List Track) → Window X → ℕ → List ℕ → List Track
 storedBelow tracks w = windowStored (w .first) (w .count) (tracks (w .below))
 
+-- and after a blank
 abbrev pub blankedBelow : {X : Type 0} → (X → List Track) → Window X → ℕ → List Track
 blankedBelow tracks w = windowBlanked (w .first) (w .count) (tracks (w .below))
 
--- what a window never changes: its two numbers, the tracks before it and after it, and what the tape below never changes
+-- what a window never changes, R being what the tape below never changes
 abbrev pub WindowRest : Type 0 → Type 0
 WindowRest R = R × (ℕ × (ℕ × (List Track × List Track)))
 
+-- it is that, its two numbers, and the tracks before it and after it
 abbrev pub restOf : {X R : Type 0} → (X → R) → (X → List Track) → Window X → WindowRest R
 restOf rest tracks w =
     (rest (w .below), (w .first, (w .count, (take (w .first) (tracks (w .below)), drop (w .first + w .count) (tracks (w .below))))))

@@ -1,6 +1,6 @@
 ghost use mathlib.Core.Path.{_≡_};
 ghost use mathlib.Core.List.{map};
-ghost use Prim.Native.Nat.{_*_, _+_, _/_, _<_, _≤_};
+ghost use Prim.Native.Nat.{_/_};
 ghost use lib.ListN.{length};
 ghost use base.Fml.{GName};
 ghost use denote.Ref.{name, now as behind};
@@ -33,7 +33,7 @@ fn cap(word: u16) -> u16
     if word < WORD_LIMIT { word } else { 0 }
 }
 
-/// Copies the numbers as words.
+/// Copies the numbers as words: each counts as `cap` says.
 fn copy_words(numbers: &[u16], buffer: &mut [u16])
     requires { ⌜ length (now buffer) ≡ length (now numbers) ⌝ }
     ensures { λ _. ⌜ now (buffer .exit) ≡ map capped (now (numbers .entry)) ⌝ }
@@ -43,7 +43,7 @@ fn copy_words(numbers: &[u16], buffer: &mut [u16])
     }
 }
 
-/// Copies the words of a track of a word image.
+/// Copies the words of a track of a word image, of either kind.
 pub(crate) fn fetch_words(memory: &[u16], track: usize, buffer: &mut [u16]) -> Result<(), TapeFault>
     ensures answer { λ r. ⌜ r ≡ fetched (wordTracks (now (memory .entry))) track (length (now (buffer .entry))) ⌝ }
     ensures words { λ _. ⌜ now (buffer .exit) ≡ delivered (wordTracks (now (memory .entry))) track (now (buffer .entry)) ⌝ }
