@@ -92,6 +92,14 @@ unpacked-packed ws e h =
         ap (λ (bs : List ℕ). fourWords (fromBytes bs)) (part-chain 5 (packedAt ws) (five-long ws) 1152 q l)
         ∙ quad (part 4 ws q) (length-part 4 ws q (omega arith)) (λ j jl. rw (getD-part 4 ws q j jl) (h (q * 4 + j) (omega arith)))
 
+-- word j of a track is digit j mod 4 of quad j / 4
+pub unpacked-word : (bs : List ℕ) (j : ℕ) → j < 4608 → getD (unpacked bs) j 0 ≡ getD (fourWords (fromBytes (part 5 bs (j / 4)))) (j % 4) 0
+unpacked-word bs j l =
+    let e : j ≡ j / 4 * 4 + j % 4 = omega arith in
+    ap (λ (i : ℕ). getD (unpacked bs) i 0) e
+    ∙ (sym (getD-part 4 (unpacked bs) (j / 4) (j % 4) (omega arith))
+    ∙ ap (λ (ws : List ℕ). getD ws (j % 4) 0) (part-chain 4 (unpackedAt bs) (four-long bs) 1152 (j / 4) (omega arith)))
+
 pub packed-sound : (m : List ℕ) → Sound (packedTracks m)
 packed-sound m = image-sound 5761 (lit< tt) unpacked m track
   where

@@ -1,10 +1,10 @@
 -- Laws of windows.
 use mathlib.Core.Path.{_≡_, refl, sym, ap, _∙_}
-use mathlib.Core.List.{List, [], _∷_}
+use mathlib.Core.List.{List, [], _∷_, _++_}
 use Prim.Native.Nat.{ℕ, zero, suc, _+_, _-_, _<_, _≤_, min}
 use native.Mathlib.Omega.{arith}
 use lib.ListN.{length, getD, set, take, drop}
-use Rattle.std.proofs.shelf.Lists.{length-take, length-drop, getD-take, getD-drop, drop-set-add, take-set-le, drop-set-lt}
+use Rattle.std.proofs.shelf.Lists.{length-take, length-drop, getD-take, getD-drop, drop-drop, drop-set-add, take-append-drop, take-set-le, drop-set-lt}
 use Rattle.std.proofs.shelf.Tests.{lt-ltb, le-ltb, eq-eqb, ne-eqb}
 use Rattle.std.specs.declared.option.Option.the-variants.{Some, None}
 use Rattle.std.specs.declared.result.Result.the-variants.{Ok, Err}
@@ -24,6 +24,12 @@ pub window-sound : (f c : ℕ) (ts : List Track) → Sound ts → Sound (windowT
 window-sound f c ts s k l =
     let h : k < min c (length ts - f) = rw (window-length f c ts) at l in
     rw (window-get f c k ts None (omega arith)) (s (f + k) (omega arith))
+
+-- the tracks before a window, in it and after it are the tape below
+pub window-whole : (f c : ℕ) (ts : List Track) → take f ts ++ (windowTracks f c ts ++ drop (f + c) ts) ≡ ts
+window-whole f c ts =
+    ap (λ (us : List Track). take f ts ++ (windowTracks f c ts ++ us)) (sym (drop-drop c f ts))
+    ∙ (ap (λ (us : List Track). take f ts ++ us) (take-append-drop c (drop f ts)) ∙ take-append-drop f ts)
 
 take-set-in : {X : Type 0} (c : ℕ) (l : List X) (k : ℕ) (v : X) → take c (set l k v) ≡ set (take c l) k v
 take-set-in zero l k v = refl
