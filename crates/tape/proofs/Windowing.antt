@@ -95,3 +95,6 @@ module _ (f c k : ℕ) (ts : List Track) (h : min c (length ts - f) ≤ k) where
 -- a buffer of the wrong size
 pub fetched-wrong : (ts : List Track) (k n : ℕ) → (n ≡ 4608 → ⊥) → fetched ts k n ≡ Err WrongBuffer
 fetched-wrong ts k n e = simp (ne-eqb n 4608 e)
+
+pub storing-wrong : (n k : ℕ) (b : List ℕ) → (length b ≡ 4608 → ⊥) → storing n k b ≡ Err WrongBuffer
+storing-wrong n k b e = simp (ne-eqb (length b) 4608 e)

@@ -21,7 +21,7 @@ returns-in-Some g c =
     let after = ap (drop (s .first + s .count)) same ∙ changed-after (s .first) (s .count) k ts (e .1) l r None in
     record {
       answer = c .blank .ensures .answer ∙ (ap (λ (p : ℕ). blanking (length ts) p) (e .0) ∙ blanking-in (s .first) (s .count) k ts (e .1) l);
-      kept = cc (before, after);
+      kept = λ i. (c .blank .ensures .kept i, (s .first, (s .count, (before i, after i))));
       tape = ap (windowTracks (s .first) (s .count)) same ∙ (changed-in (s .first) (s .count) k ts (e .1) l r None ∙ rw (blanking-in (s .first) (s .count) k ts (e .1) l));
       below = same ∙ rw (blanking-in (s .first) (s .count) k ts (e .1) l);
     }

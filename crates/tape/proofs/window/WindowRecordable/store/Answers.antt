@@ -5,8 +5,14 @@ use lib.ListN.{length, take, drop}
 use Rattle.std.specs.declared.option.Option.the-variants.{Some}
 use Rattle.tape.specs.Tape.{outcome, storing, stored}
 use Rattle.tape.specs.Windows.{windowTracks}
-use Rattle.tape.proofs.Windowing.{storing-in, changed-in, changed-before, changed-after, storing-out}
+use Rattle.tape.proofs.Windowing.{storing-in, changed-in, changed-before, changed-after, storing-out, storing-wrong}
 use Rattle.tape.proofs.window.WindowRecordable.store.Needs as need
+
+pub returns-then-buffer-ne-WORDS : need.returns-then-buffer-ne-WORDS
+returns-then-buffer-ne-WORDS g c =
+    let s = c .args .self .now in
+    let a = storing-wrong (length (windowTracks (s .first) (s .count) (g .T·Playable .tracks (s .below)))) (c .args .track) (c .args .buffer .now) (c .if-buffer-ne-WORDS .taken) in
+    record { answer = sym a; kept = refl; tape = sym (rw a); below = sym (rw a) }
 
 pub returns-in-Some : need.returns-in-Some
 returns-in-Some g c =
@@ -22,7 +28,7 @@ returns-in-Some g c =
     let after = ap (drop (s .first + s .count)) same ∙ changed-after (s .first) (s .count) k ts (e .1) l r (Some b) in
     record {
       answer = c .store .ensures .answer ∙ (ap (λ (p : ℕ). storing (length ts) p b) (e .0) ∙ storing-in (s .first) (s .count) k ts (e .1) l b);
-      kept = cc (before, after);
+      kept = λ i. (c .store .ensures .kept i, (s .first, (s .count, (before i, after i))));
       tape = ap (windowTracks (s .first) (s .count)) same ∙ (changed-in (s .first) (s .count) k ts (e .1) l r (Some b) ∙ rw (storing-in (s .first) (s .count) k ts (e .1) l b));
       below = same ∙ rw (storing-in (s .first) (s .count) k ts (e .1) l b);
     }
