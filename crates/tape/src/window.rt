@@ -17,11 +17,11 @@ pub struct Window<T> {
     pub count: usize,
 }
 
-/// Where a track of a window lies on a tape of `length` tracks below, if the window has it.
-fn place(length: usize, first: usize, count: usize, track: usize) -> Option<usize>
-    ensures { λ r. ⌜ BySome r (min count (length - first) ≤ track) (λ p. (p ≡ first + track) × (track < count) × (p < length)) ⌝ }
+/// Where a track of a window lies on a tape of so many tracks below, if the window has it.
+fn place(tracks: usize, first: usize, count: usize, track: usize) -> Option<usize>
+    ensures { λ r. ⌜ BySome r (min count (tracks - first) ≤ track) (λ p. (p ≡ first + track) × (track < count) × (p < tracks)) ⌝ }
 {
-    if track < count && first < length && track < length - first {
+    if track < count && first < tracks && track < tracks - first {
         Some(first + track)
     } else {
         None
@@ -39,11 +39,11 @@ pub impl<T: Playable> Playable for Window<T> as WindowPlayable {
     }
 
     fn fetch(&self, track: usize, buffer: &mut [u16]) -> Result<(), TapeFault> {
-        let length = self.below.length();
+        let tracks = self.below.length();
         if buffer.len() != WORDS {
             return Err(TapeFault::WrongBuffer);
         }
-        match place(length, self.first, self.count, track) {
+        match place(tracks, self.first, self.count, track) {
             Some(p) => self.below.fetch(p, buffer),
             None => Err(TapeFault::NoTrack),
         }
