@@ -1,6 +1,6 @@
 -- Laws of a list that is made part by part, each of one size.
 use mathlib.Core.Path.{_≡_, refl, sym, ap, _∙_}
-use mathlib.Core.List.{List, [], _∷_, _++_}
+use mathlib.Core.List.{List, [], _++_}
 use mathlib.Core.Logic.{⊎-elim}
 use Prim.Native.Nat.{ℕ, zero, suc, _+_, _-_, _*_, _<_, _≤_}
 use native.Mathlib.Omega.{arith}
@@ -8,7 +8,7 @@ use native.Mathlib.Nat.{suc-mul, zero-mul, mul-le-mul-right}
 use native.Mathlib.Numerals.{add-one}
 use borrow.Rule.Slice.PartMut.{putMid}
 use lib.ListN.{length, getD, take, drop}
-use Rattle.std.proofs.shelf.Lists.{length-append, append-assoc, take-at, drop-at, take-all, drop-all, drop-drop, drop-take, take-take, take-append-drop, drop-append-le, take-append-le, append-nil, getD-append-left, getD-append-right, length-take, length-drop}
+use Rattle.std.proofs.shelf.Lists.{length-append, append-assoc, take-at, drop-at, take-all, drop-all, drop-drop, drop-take, take-take, take-append-drop, drop-append-le, take-append-le, append-nil, getD-append-left, getD-append-right, length-drop}
 use Rattle.std.proofs.shelf.Tests.{cases-lt}
 use Rattle.tape.specs.Images.{part, chain}
 

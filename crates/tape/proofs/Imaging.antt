@@ -1,15 +1,14 @@
 -- Laws of images in memory, over the number of numbers a track and what they mean.
-use mathlib.Core.Path.{_≡_, refl, sym, ap, _∙_}
-use mathlib.Core.List.{List, [], _∷_, _++_, map}
-use mathlib.Core.Bool.{Bool, true, false, cond}
+use mathlib.Core.Path.{_≡_, sym, ap, _∙_}
+use mathlib.Core.List.{List, _∷_}
+use mathlib.Core.Bool.{true, false, cond}
 use mathlib.Core.Logic.{_⊎_, inl, inr, ⊎-elim}
-use Prim.Native.Nat.{ℕ, zero, suc, _+_, _-_, _*_, _/_, _<_, _≤_}
+use Prim.Native.Nat.{ℕ, _+_, _-_, _*_, _/_, _<_, _≤_}
 use native.Mathlib.Omega.{arith}
 use native.Mathlib.Nat.{zero-add, add-zero}
-use lib.Dec.{eqb, ltb}
-use lib.ListN.{length, getD, set, take, drop}
+use lib.Dec.{eqb}
+use lib.ListN.{length, getD, set, drop}
 use lib.Seq.{paste}
-use Rattle.std.specs.Iters.{counting}
 use Rattle.std.proofs.shelf.Counted.{length-map-counting, getD-map-counting}
 use Rattle.std.proofs.shelf.Lists.{length-set, getD-set-same, getD-set-other, ext-getD}
 use Rattle.std.proofs.shelf.Tests.{cases-eq, ne-eqb}
@@ -17,7 +16,7 @@ use Rattle.std.specs.declared.option.Option.the-variants.{Some, None}
 use Rattle.std.specs.declared.result.Result.the-variants.{Ok, Err}
 use Rattle.tape.specs.declared.fault.TapeFault.{TapeFault}
 use Rattle.tape.specs.declared.fault.TapeFault.the-variants.{Blank}
-use Rattle.tape.specs.Tape.{Track, Sound, SoundTrack, reached, fetched, delivered, outcome, storing, stored, blanking, blanked}
+use Rattle.tape.specs.Tape.{Sound, SoundTrack, reached, fetched, delivered, storing, stored, blanking, blanked}
 use Rattle.tape.specs.Images.{part, trackOf, imageTracks, imageStored, imageBlanked}
 use Rattle.tape.proofs.Answering.{outcome-ap, outcome-same, storing-ok, blanking-ok}
 use Rattle.tape.proofs.Cutting.{room, apart, length-part, getD-part, part-same, paste-length, paste-below, paste-above, part-paste}

@@ -1,15 +1,15 @@
 -- Laws of the packed image.
 use mathlib.Core.Path.{_≡_, refl, sym, ap, _∙_}
-use mathlib.Core.List.{List, [], _∷_, _++_}
-use Prim.Native.Nat.{ℕ, zero, suc, _+_, _-_, _*_, _/_, _%_, _^_, _<_, _≤_}
+use mathlib.Core.List.{List, [], _∷_}
+use Prim.Native.Nat.{ℕ, zero, suc, _+_, _-_, _*_, _/_, _%_, _^_, _<_}
 use native.Mathlib.Omega.{arith}
 use native.Mathlib.Nat.{div-add-mod', div-div-eq-div-mul, mod-eq-of-lt}
 use lib.Dec.{lit<}
-use lib.ListN.{length, getD, set, take, drop}
+use lib.ListN.{length, getD, set, drop}
 use Rattle.std.proofs.shelf.Lists.{take-all}
 use Rattle.std.specs.declared.option.Option.the-variants.{Some}
 use Rattle.tape.specs.Tape.{Sound, SoundTrack, narrow, stored}
-use Rattle.tape.specs.Images.{part, fromBytes, fromWords, fiveBytes, fourWords, chain, packed, unpacked, packedAt, unpackedAt, packedTracks, packedStored}
+use Rattle.tape.specs.Images.{part, fromBytes, fromWords, fiveBytes, fourWords, packed, unpacked, packedAt, unpackedAt, packedTracks, packedStored}
 use Rattle.tape.proofs.Answering.{narrow-get, storing-ok}
 use Rattle.tape.proofs.Cutting.{length-part, getD-part}
 use Rattle.tape.proofs.Chaining.{chain-same, chain-parts, chain-all, length-chain, part-chain}

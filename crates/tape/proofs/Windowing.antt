@@ -6,10 +6,10 @@ use native.Mathlib.Omega.{arith}
 use lib.ListN.{length, getD, set, take, drop}
 use Rattle.std.proofs.shelf.Lists.{length-take, length-drop, getD-take, getD-drop, drop-drop, drop-set-add, take-append-drop, take-set-le, drop-set-lt}
 use Rattle.std.proofs.shelf.Tests.{lt-ltb, le-ltb, eq-eqb, ne-eqb}
-use Rattle.std.specs.declared.option.Option.the-variants.{Some, None}
+use Rattle.std.specs.declared.option.Option.the-variants.{None}
 use Rattle.std.specs.declared.result.Result.the-variants.{Ok, Err}
 use Rattle.tape.specs.declared.fault.TapeFault.the-variants.{NoTrack, WrongBuffer}
-use Rattle.tape.specs.Tape.{Answer, Track, Sound, SoundTrack, outcome, reached, fetched, delivered, storing, stored, blanking, blanked}
+use Rattle.tape.specs.Tape.{Answer, Track, Sound, outcome, fetched, delivered, storing, blanking}
 use Rattle.tape.specs.Windows.{windowTracks}
 use Rattle.tape.proofs.Answering.{outcome-ap}
 

@@ -1,4 +1,3 @@
-ghost use mathlib.Core.Path.{_≡_};
 ghost use denote.Ref.{now as behind};
 ghost use Rattle.tape.specs.Images.{wordTracks};
 use crate::fault::TapeFault;

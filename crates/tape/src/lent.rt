@@ -1,4 +1,3 @@
-ghost use mathlib.Core.Path.{_≡_};
 ghost use base.Fml.{GName};
 ghost use denote.Ref.{name, now as behind};
 use crate::fault::TapeFault;

@@ -1,4 +1,3 @@
-ghost use mathlib.Core.Path.{_≡_};
 ghost use denote.Ref.{now as behind};
 use crate::fault::TapeFault;
 use crate::traits::Playable;

@@ -1,9 +1,9 @@
 use native.Mathlib.Omega.{arith}
-use mathlib.Core.Path.{_≡_, _∙_, ap, refl, sym}
+use mathlib.Core.Path.{_∙_, ap, refl, sym}
 use Prim.Native.Nat.{ℕ, _+_, _-_, _<_, _≤_, min}
 use lib.ListN.{length, take, drop}
 use Rattle.std.specs.declared.option.Option.the-variants.{None}
-use Rattle.tape.specs.Tape.{outcome, blanking, blanked}
+use Rattle.tape.specs.Tape.{blanking, blanked}
 use Rattle.tape.specs.Windows.{windowTracks}
 use Rattle.tape.proofs.Windowing.{blanking-in, changed-in, changed-before, changed-after, blanking-out}
 use Rattle.tape.proofs.window.WindowRecordable.blank.Needs as need
