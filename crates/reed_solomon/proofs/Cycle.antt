@@ -27,7 +27,7 @@ checks-all r b c e h = go (decLt r 255)
     go (yes l) = c e (omega arith)
     go (no g) = let m : e % 255 < 255 = mod-lt e (lit< tt) in sym (syndrome-mod e b) ∙ c (e % 255) (omega arith)
 
-checks-less : (r : ℕ) (b : List ℕ) → Checks r b → Checks (min r 255) b
+pub checks-less : (r : ℕ) (b : List ℕ) → Checks r b → Checks (min r 255) b
 checks-less r b c e h = c e (omega arith)
 
 pub filled-all : (r : ℕ) (ps b u : List ℕ) → Filled (min r 255) ps b u → Filled r ps b u

@@ -1,6 +1,8 @@
 -- The two tables of the code, as lists.
-use mathlib.Core.List.{List, [], _∷_, _++_}
-use Prim.Native.Nat.{ℕ}
+use mathlib.Core.List.{List, [], _∷_, _++_, map}
+use Prim.Native.Nat.{ℕ, _/_, _%_}
+use Rattle.std.specs.Iters.{counting}
+use Rattle.reed_solomon.specs.Galois.{gmul, alpha}
 
 -- the powers of 2, from 0 to 254
 abbrev once : List ℕ
@@ -47,3 +49,7 @@ logs =
     203 ∷ 89 ∷ 95 ∷ 176 ∷ 156 ∷ 169 ∷ 160 ∷ 81 ∷ 11 ∷ 245 ∷ 22 ∷ 235 ∷ 122 ∷ 117 ∷ 44 ∷ 215 ∷
     79 ∷ 174 ∷ 213 ∷ 233 ∷ 230 ∷ 231 ∷ 173 ∷ 232 ∷ 116 ∷ 214 ∷ 244 ∷ 234 ∷ 168 ∷ 80 ∷ 88 ∷ 175 ∷
     []
+
+-- each byte times the powers of 2 from 0 to 5, one after another
+unfoldable pub products : List ℕ
+products = map (λ i. gmul (i % 256) (alpha (i / 256))) (counting 0 1536)

@@ -1,5 +1,5 @@
 -- The powers, the inverse, and that every byte but 0 is a power of 2.
-use mathlib.Core.Path.{_≡_, refl, sym, ap, _∙_}
+use mathlib.Core.Path.{_≡_, refl, sym, ap, ap₂, _∙_}
 use mathlib.Core.Logic.{_⊎_, inl, inr, _≢_}
 use Prim.Native.Nat.{ℕ, zero, suc, _+_, _-_, _*_, _/_, _%_, _<_}
 use native.Mathlib.Nat.{zero-add, suc-add, mul-zero, mul-suc, mul-comm, add-comm}
@@ -11,7 +11,8 @@ use lib.ListN.{getD}
 use Rattle.reed_solomon.specs.Galois.{xtime, horner, gmul, gpow, alpha, ginv, Field}
 use Rattle.reed_solomon.proofs.Below.{below, at, at-eq}
 use Rattle.reed_solomon.proofs.Laws.{gmul-lt, gmul-comm, gmul-assoc, gmul-one-l, gmul-one-r, gmul-zero-l, gmul-xor-r}
-use Rattle.reed_solomon.proofs.PowerTables.{exps, logs}
+use Rattle.reed_solomon.proofs.PowerTables.{exps, logs, products}
+use Rattle.std.proofs.shelf.Counted.{getD-map-counting}
 
 pub gpow-lt : (x e : ℕ) → gpow x e < 256
 unfolding gpow
@@ -55,6 +56,15 @@ exps-at (suc i) h = exps-step i (omega arith) ∙ ap (gmul 2) (exps-at i (omega 
 pub logs-lt : (a : ℕ) → a < 256 → getD logs a 0 < 255
 unfolding below logs
 logs-lt a h = ltb→lt (getD logs a 0) 255 (at (λ a. ltb (getD logs a 0) 255) 256 tt a h)
+
+pub products-at : (e x : ℕ) → e < 6 → x < 256 → getD products (256 * e + x) 0 ≡ gmul x (alpha e)
+unfolding products
+products-at e x h k =
+    let i : ℕ = 256 * e + x in
+    let l : i < 1536 = omega arith in
+    let m : i % 256 ≡ x = omega arith in
+    let d : i / 256 ≡ e = omega arith in
+    getD-map-counting (λ i. gmul (i % 256) (alpha (i / 256))) 0 1536 i i 0 l (zero-add i) ∙ ap₂ (λ a b. gmul a (alpha b)) m d
 
 -- every byte but 0 is a power of 2
 logs-test : (a : ℕ) → a < 255 → getD exps (getD logs (suc a) 0) 0 ≡ suc a

@@ -1,3 +1,4 @@
 pub mod Galois
+pub mod Interleaves
 pub mod Steps
 pub mod Words

@@ -3,6 +3,7 @@ pub mod codes;
 pub mod fault;
 pub mod field;
 pub mod filling;
+pub mod interleaved;
 pub mod syndromes;
 mod tables;
 pub mod theorems;

@@ -1,7 +1,12 @@
-use mathlib.Core.Path.{refl}
-use native.Mathlib.Omega.{arith}
-use Rattle.reed_solomon.proofs.Cycle.{checks-all}
+use mathlib.Core.Path.{_≡_, subst, sym}
+use Rattle.reed_solomon.specs.Words.{Checks}
+use Rattle.reed_solomon.proofs.Cycle.{checks-all, checks-less}
 use Rattle.reed_solomon.proofs.syndromes.checks.Needs as need
 
 pub returns : need.returns
-returns c = (λ _. checks-all (c .args .r) (c .args .word .now) (λ e h. c .loop-e .inv e (omega (arith, c .min-e-end .ensures))), λ _. refl)
+returns c =
+    let w = c .args .word .now in
+    let r = c .args .r in (
+      λ e. checks-all r w (subst (λ m. Checks m w) (c .min-few .ensures) (c .sums-vanish .ensures .0 e)),
+      λ h. c .sums-vanish .ensures .1 (subst (λ m. Checks m w) (sym (c .min-few .ensures)) (checks-less r w h)),
+    )
