@@ -2,7 +2,7 @@ use mathlib.Core.Path.{_≡_, refl, sym, ap, _∙_}
 use mathlib.Core.Bool.{Bool, true, false, cond}
 use mathlib.Core.List.{List, [], _∷_}
 use mathlib.Core.Logic.{⊎-elim}
-use Prim.Native.Nat.{ℕ, _+_, _*_, _/_, _%_, _<_, _≤_}
+use Prim.Native.Nat.{ℕ, suc, _+_, _*_, _/_, _%_, _<_, _≤_}
 use native.Mathlib.Omega.{arith}
 use lib.Dec.{ltb, lit<}
 use lib.ListN.{length, getD}
@@ -21,7 +21,7 @@ use Rattle.channel.specs.States.{stateNumber}
 use Rattle.channel.specs.Codes.{place, wordOf, nextOf, byteOf, sheetEncode, sheetDecode, Good, Narrow, Wide, Apart, Shared}
 use Rattle.channel.specs.Faults.{Declined, SheetVerdict}
 use Rattle.channel.specs.Listed.{encodeAll, decodeAll, lostOf, orZero, isLost}
-use Rattle.channel.specs.Stand.{GoodSheetsServe, DecodesNoMore, SharedWordsServeNever, OneVerdict, SeriesComeBack}
+use Rattle.channel.specs.Stand.{GoodSheetsServe, DecodesNoMore, SharedWordsServeNever, OneVerdict, SeriesComeBack, SeriesFit, SeriesJoin}
 use Rattle.channel.proofs.Laws.{byteOf-some, sheet-back, place-below, place-of}
 
 parts : (n : ℕ) → n ≤ 2047 → n ≡ wordOf n + 1024 * stateNumber (nextOf n)
@@ -95,3 +95,11 @@ come-back f g h s (b ∷ bs) (l, a) =
     let r = come-back f g h (f s b .1) bs a in
     let e = h s b l in
     (rw (e, r .0) refl, rw (e, r .1) refl)
+
+pub fit : SeriesFit
+fit f h s [] a = (refl, tt)
+fit f h s (b ∷ bs) (l, a) = let r = fit f h (f s b .1) bs a in (ap suc (r .0), (h s b l, r .1))
+
+pub join : SeriesJoin
+join f s [] cs = (refl, refl)
+join f s (b ∷ bs) cs = let r = join f (f s b .1) bs cs in (ap (λ (ws : List ℕ). f s b .0 ∷ ws) (r .0), r .1)

@@ -34,7 +34,8 @@ nextOf n = cond (ltb n 1024) Zero One
 abbrev pub sheetEncode : List ℕ → State → ℕ → ℕ × State
 sheetEncode xs s b = (wordOf (getD xs (place s b) 0), nextOf (getD xs (place s b) 0))
 
--- Among the first n numbers of a sheet: the byte whose number, in either state, has the word w, or none.
+-- Among the first n numbers of a sheet: the byte whose number, in either state, has the word w, or none. Of several
+-- such bytes it is the last; a good sheet has one at most.
 unfoldable pub byteOf : List ℕ → ℕ → ℕ → Option ℕ
 byteOf xs zero w = None
 byteOf xs (suc n) w = cond (eqb (wordOf (getD xs n 0)) w) (Some (n / 2)) (byteOf xs n w)

@@ -8,7 +8,7 @@ use Rattle.channel.specs.declared.fault.SheetFault.{SheetFault}
 use Rattle.channel.specs.declared.fault.SheetFault.the-variants.{WrongCount, WideNumber, SharedWord}
 use Rattle.channel.specs.Codes.{Good, Narrow, Wide, Shared}
 
--- the number of each decline, in the order of checking
+-- The number of each decline, in the order of checking.
 abbrev pub number : SheetFault → ℕ
 number WrongCount = 1
 number WideNumber = 2

@@ -1,7 +1,7 @@
 use Prim.Native.Nat.{ℕ, _+_, _*_, _<_}
 use mathlib.Core.Path.{_≡_}
 use mathlib.Core.Bool.{false}
-use mathlib.Core.List.{List}
+use mathlib.Core.List.{List, _++_}
 use lib.ListN.{length, getD, replicate}
 use Rattle.std.specs.shelf.Lists.{All}
 use Rattle.std.specs.declared.option.Option.{Option}
@@ -12,7 +12,7 @@ use Rattle.channel.specs.declared.fault.SheetFault.{SheetFault}
 use Rattle.channel.specs.States.{stateNumber}
 use Rattle.channel.specs.Codes.{place, sheetEncode, sheetDecode, Good, Shared}
 use Rattle.channel.specs.Faults.{SheetVerdict}
-use Rattle.channel.specs.Listed.{encodeAll, decodeAll, lostOf}
+use Rattle.channel.specs.Listed.{encodeAll, stateAfter, decodeAll, lostOf}
 
 -- A good sheet is a line code. For every state and byte its number is the word plus 1,024 times the next state, the
 -- word is below 1,024, and the word gives the byte back.
@@ -44,3 +44,17 @@ SeriesComeBack =
     (f : State → ℕ → ℕ × State) (g : ℕ → Option ℕ) → ((s : State) (b : ℕ) → b < 256 → g (f s b .0) ≡ Some b)
     → (s : State) (bs : List ℕ) → All (λ b. b < 256) bs
     → (decodeAll g (encodeAll f s bs) ≡ bs) × (lostOf g (encodeAll f s bs) ≡ replicate (length bs) false)
+
+-- There are as many words as bytes, each below 1,024.
+abbrev pub SeriesFit : Type 0
+SeriesFit =
+    (f : State → ℕ → ℕ × State) → ((s : State) (b : ℕ) → b < 256 → f s b .0 < 1024)
+    → (s : State) (bs : List ℕ) → All (λ b. b < 256) bs
+    → (length (encodeAll f s bs) ≡ length bs) × All (λ w. w < 1024) (encodeAll f s bs)
+
+-- Two series encoded one after the other, the state carried over, are the two encoded as one.
+abbrev pub SeriesJoin : Type 0
+SeriesJoin =
+    (f : State → ℕ → ℕ × State) (s : State) (bs cs : List ℕ)
+    → (encodeAll f s (bs ++ cs) ≡ encodeAll f s bs ++ encodeAll f (stateAfter f s bs) cs)
+    × (stateAfter f s (bs ++ cs) ≡ stateAfter f (stateAfter f s bs) cs)

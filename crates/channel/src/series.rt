@@ -1,9 +1,9 @@
 ghost use mathlib.Core.Path.{_≡_};
-ghost use mathlib.Core.Bool.{Bool, true, false, cond, _&&_};
+ghost use mathlib.Core.Bool.{cond, _&&_};
 ghost use lib.Dec.{eqb};
 ghost use lib.ListN.{length};
 ghost use Rattle.std.specs.declared.option.Option.the-variants.{Some, None};
-ghost use Rattle.channel.specs.Stand.{SeriesComeBack};
+ghost use Rattle.channel.specs.Stand.{SeriesComeBack, SeriesFit, SeriesJoin};
 ghost use Rattle.channel.specs.Listed.{encodeAll, stateAfter, decodeAll, lostOf, orZero, isLost};
 use crate::line::LineCode;
 use crate::state::State;
@@ -23,8 +23,8 @@ pub fn encode_all<C: LineCode>(
         return None;
     }
     let mut current = state;
-    for i in 0..bytes.len() {
-        let (word, next) = code.encode(current, bytes[i]);
+    for (i, byte) in bytes.iter().enumerate() {
+        let (word, next) = code.encode(current, *byte);
         words[i] = word;
         current = next;
     }
@@ -44,8 +44,8 @@ pub fn decode_all<C: LineCode>(code: &C, words: &[u16], bytes: &mut [u8], lost: 
     if lost.len() != words.len() {
         return false;
     }
-    for i in 0..words.len() {
-        let (byte, gone) = byte_or_zero(code.decode(words[i]));
+    for (i, word) in words.iter().enumerate() {
+        let (byte, gone) = byte_or_zero(code.decode(*word));
         bytes[i] = byte;
         lost[i] = gone;
     }
@@ -63,7 +63,10 @@ fn byte_or_zero(byte: Option<u8>) -> (u8, bool)
     }
 }
 
-/// What one series of bytes becomes, encoded and decoded: the same bytes, none of them lost.
+/// What holds of every series: encoded and decoded it is the same again with nothing lost, its words are as many as its
+/// bytes and have ten bits, and it may be encoded in parts.
 pub fn series_stand()
-    ensures { λ _. ⌜ SeriesComeBack ⌝ }
+    ensures back { λ _. ⌜ SeriesComeBack ⌝ }
+    ensures fit { λ _. ⌜ SeriesFit ⌝ }
+    ensures join { λ _. ⌜ SeriesJoin ⌝ }
 {}

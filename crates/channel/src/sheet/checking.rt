@@ -78,11 +78,11 @@ fn narrowed(numbers: &[u32]) -> Option<[u16; NUMBERS]>
     ensures { λ r. ⌜ BySome r (Wide (now (numbers .entry))) (λ t. (t ≡ now (numbers .entry)) × Narrow (now (numbers .entry))) ⌝ }
 {
     let mut table = [0u16; NUMBERS];
-    for i in 0..NUMBERS {
-        if numbers[i] > LARGEST {
+    for (i, number) in numbers.iter().enumerate() {
+        if *number > LARGEST {
             return None;
         }
-        table[i] = numbers[i] as u16;
+        table[i] = *number as u16;
     }
     Some(table)
 }
@@ -103,8 +103,8 @@ fn inverted(numbers: &[u16; NUMBERS]) -> Option<[Option<u8>; WORDS]>
     ensures { λ r. ⌜ BySome r (Shared (now (numbers .entry))) (λ t. Apart (now (numbers .entry)) × Inverse t (now (numbers .entry))) ⌝ }
 {
     let mut bytes = [None; WORDS];
-    for i in 0..NUMBERS {
-        let word = (numbers[i] % 1024) as usize;
+    for (i, number) in numbers.iter().enumerate() {
+        let word = (*number % 1024) as usize;
         let byte = (i / 2) as u8;
         if !is_free(bytes[word], byte) {
             return None;
