@@ -19,6 +19,9 @@ pub trait LineCode {
     /// Every word of a byte has ten bits.
     law narrow: { (c : Self) (s : State) (b : ℕ) → b < 256 → encode c s b .0 < 1024 };
 
+    /// What a word gives is a byte.
+    law bytes: { (c : Self) (w b : ℕ) → decode c w ≡ Some b → b < 256 };
+
     /// The word and the next state of a byte.
     fn encode(&self, state: State, byte: u8) -> (u16, State)
         ensures { λ r. ⌜ r ≡ encode (now (self .entry)) state byte ⌝ };

@@ -17,6 +17,10 @@ pub record Code : Type 0 where
   pub encode : State → ℕ → ℕ × State
   pub decode : ℕ → Option ℕ
 
+-- the line code with these words and bytes
+abbrev pub codeOf : (State → ℕ → ℕ × State) → (ℕ → Option ℕ) → Code
+codeOf f g = record { encode = f; decode = g }
+
 -- its law: words have ten bits, and give back the byte that they were made from
 pub record Lawful (c : Code) : Type 0 where
   pub words : (s : State) (x : ℕ) → x < 256 → c .encode s x .0 < 1024
