@@ -1,2 +1,3 @@
 //! A group as its 46 tracks: rows of bytes, arrays with their check bytes, channel words, and the tape.
 pub mod array;
+pub mod words;
