@@ -1,3 +1,6 @@
 pub mod Made
+pub mod Pads
 pub mod Passes
+pub mod RowSteps
+pub mod RowsMade
 pub mod Sending

@@ -60,6 +60,10 @@ abbrev pub Passed : ℕ → List ℕ → ℕ → ℕ → ℕ → (ℕ → ℕ) �
 Passed r ps size stride n word pos first xs zs w =
     (p : ℕ) → p < size → getD zs p 0 ≡ cond (ltb (word p) w) (byteAt (pos p) (filling r ps (interleaved xs (first p) stride n))) (getD xs p 0)
 
+pub passed-none : (r : ℕ) (ps : List ℕ) (size stride n : ℕ) (word pos first : ℕ → ℕ) (xs : List ℕ) → Passed r ps size stride n word pos first xs xs 0
+passed-none r ps size stride n word pos first xs p h =
+    sym (cond-false (ltb (word p) 0) (byteAt (pos p) (filling r ps (interleaved xs (first p) stride n))) (getD xs p 0) (le-ltb (word p) 0 (omega arith)))
+
 module _ (r : ℕ) (ps : List ℕ) (size many stride n : ℕ) (word pos first start : ℕ → ℕ) (split : Split size many stride n word pos first start)
     (small : n ≤ 255) (places : Places n ps) (all : length ps ≡ r) (xs zs ys : List ℕ) (w : ℕ) (within : w < many)
     (reach : (j : ℕ) → j < n → start w + stride * j < size) (bz : (i : ℕ) → getD zs i 0 < 256)
@@ -129,3 +133,13 @@ c2-places = record { within = which-below (λ j. leb 13 j && leb j 18) 32 32 (li
 pub c1-places : Places 32 c1Checks
 unfolding c1Checks
 c1-places = record { within = which-below (λ j. leb 28 j) 32 32 (lit≤ tt); once = which-distinct (λ j. leb 28 j) 32 }
+
+-- ---- the C3 words of the data, which begin at the places 2 to 2,879 of a row
+
+pub c3-split : Split 133952 2912 2912 46 (λ p. (p % 2912 + 2910) % 2912) (λ p. p / 2912) (λ p. p % 2912) (λ w. (w + 2) % 2912)
+c3-split =
+    record { begins = λ p h. omega arith; here = λ p h. omega arith; below = λ p h. omega arith; back = λ w j h l. omega arith }
+
+pub c3-places : Places 46 c3Checks
+unfolding c3Checks
+c3-places = record { within = which-below (λ k. leb 44 k) 46 46 (lit≤ tt); once = which-distinct (λ k. leb 44 k) 46 }

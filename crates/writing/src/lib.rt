@@ -1,3 +1,4 @@
 //! A group as its 46 tracks: rows of bytes, arrays with their check bytes, channel words, and the tape.
 pub mod array;
+pub mod rows;
 pub mod words;
