@@ -4,3 +4,4 @@ pub mod Passes
 pub mod RowSteps
 pub mod RowsMade
 pub mod Sending
+pub mod Tracks
