@@ -4,4 +4,5 @@ pub mod Passes
 pub mod RowSteps
 pub mod RowsMade
 pub mod Sending
+pub mod TapeSteps
 pub mod Tracks

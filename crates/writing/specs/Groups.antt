@@ -40,12 +40,15 @@ abbrev pub outcome : {X : Type 0} → Answer → X → X → X
 outcome (Ok u) new old = new
 outcome (Err e) new old = old
 
+-- the tape with the words f 0 to f 45 on the tracks of group g, 46 (g - 1) to 46 g - 1, and the other tracks as they were
+unfoldable pub withTracks : (ℕ → List ℕ) → ℕ → List Track → List Track
+withTracks f g ts =
+    map (λ k. cond (leb (46 * (g - 1)) k && ltb k (46 * (g - 1) + 46)) (Some (f (k - 46 * (g - 1)))) (getD ts k None)) (counting 0 (length ts))
+
 -- track t of group g under a line code and settings
 unfoldable pub groupTrack : Code → ℕ → ℕ → ℕ → List ℕ → ℕ → List ℕ
 groupTrack c tap start g group t = track c (address g t) (arrays tap start group t)
 
--- the tape with group g on tracks 46 (g - 1) to 46 g - 1, and the other tracks as they were
-unfoldable pub withGroup : Code → ℕ → ℕ → ℕ → List ℕ → List Track → List Track
-withGroup c tap start g group ts =
-    map (λ k. cond (leb (46 * (g - 1)) k && ltb k (46 * (g - 1) + 46)) (Some (groupTrack c tap start g group (k - 46 * (g - 1)))) (getD ts k None))
-    (counting 0 (length ts))
+-- the tape with group g written on its tracks
+abbrev pub withGroup : Code → ℕ → ℕ → ℕ → List ℕ → List Track → List Track
+withGroup c tap start g group ts = withTracks (groupTrack c tap start g group) g ts

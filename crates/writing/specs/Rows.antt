@@ -5,7 +5,7 @@ use mathlib.Core.List.{List}
 use Prim.Native.Nat.{ℕ, _+_, _-_, _*_, _/_, _%_, _<_}
 use lib.Bits.{bitXor}
 use lib.Dec.{eqb, ltb}
-use lib.ListN.{getD}
+use lib.ListN.{getD, take, drop}
 use Rattle.layout.specs.Randomizer.{output, steps}
 use Rattle.layout.specs.Words.{frameByte}
 use Rattle.reed_solomon.specs.Interleaves.{interleaved}
@@ -39,3 +39,7 @@ c3Filled xs p =
 -- the bench has the rows of the group's tracks
 abbrev pub HasRows : ℕ → ℕ → List ℕ → List ℕ → Type 0
 HasRows tap start group bench = (k q : ℕ) → k < 46 → q < 2912 → getD bench (2912 * k + q) 0 ≡ byteOf tap start group k q
+
+-- row t of the bench
+abbrev pub rowIn : List ℕ → ℕ → List ℕ
+rowIn bench t = take 2912 (drop (2912 * t) bench)

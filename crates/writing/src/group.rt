@@ -8,8 +8,8 @@ ghost use Rattle.layout.specs.Group.{address};
 ghost use Rattle.layout.specs.Line.{codeOf, track};
 ghost use Rattle.layout.specs.Writing.{arrayOf};
 ghost use Rattle.writing.specs.Arrays.{numberOr};
-ghost use Rattle.writing.specs.Groups.{lent, reached, andThen, outcome, groupTrack, withGroup};
-ghost use Rattle.writing.specs.Rows.{HasRows};
+ghost use Rattle.writing.specs.Groups.{lent, reached, andThen, outcome, withTracks, withGroup};
+ghost use Rattle.writing.specs.Rows.{rowIn};
 
 use crate::array;
 use crate::fault::WriteFault;
@@ -44,4 +44,29 @@ fn store_track<T: Recordable, C: LineCode>(
     array::make_array(numbers, row, array);
     words::send_track(code, number, t, array, buffer);
     let _ = tape.store(46 * (number as usize - 1) + t, buffer);
+}
+
+/// Stores the tracks of all rows.
+fn store_rows<T: Recordable, C: LineCode>(
+    tape: &mut T,
+    code: &C,
+    number: u16,
+    rows: &[u8],
+    numbers: &[u16],
+    array: &mut [u8],
+    buffer: &mut [u16],
+)
+    requires { ⌜ 0 < number ⌝ }
+    requires { ⌜ 46 * number ≤ length (T·Playable .tracks (now tape)) ⌝ }
+    requires { ⌜ length (now rows) ≡ 133952 ⌝ }
+    requires { ⌜ length (now numbers) ≡ 4096 ⌝ }
+    requires { ⌜ ((p : ℕ) → p < 4096 → getD (now numbers) p 0 ≡ numberOr p) ⌝ }
+    requires { ⌜ length (now array) ≡ 4096 ⌝ }
+    requires { ⌜ length (now buffer) ≡ 4608 ⌝ }
+    ensures kept { λ _. ⌜ T·Recordable .rest (now (tape .exit)) ≡ T·Recordable .rest (now (tape .entry)) ⌝ }
+    ensures tape { λ _. ⌜ T·Playable .tracks (now (tape .exit)) ≡ withTracks (λ t. track (codeOf (C·LineCode .encode (now (code .entry))) (C·LineCode .decode (now (code .entry)))) (address number t) (arrayOf (rowIn (now (rows .entry)) t))) number (T·Playable .tracks (now (tape .entry))) ⌝ }
+{
+    for t in 0..46 {
+        store_track(tape, code, number, t, &rows[2912 * t..2912 * t + 2912], numbers, array, buffer);
+    }
 }
