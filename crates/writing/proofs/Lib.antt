@@ -1,3 +1,4 @@
+pub mod GroupMade
 pub mod Made
 pub mod Pads
 pub mod Passes

@@ -81,7 +81,7 @@ fn number_or(p: usize) -> u16
 }
 
 /// For each place of an array the number of its byte in the row.
-fn number_places(numbers: &mut [u16])
+pub(crate) fn number_places(numbers: &mut [u16])
     requires { ⌜ length (now numbers) ≡ 4096 ⌝ }
     ensures { λ _. ⌜ ((p : ℕ) → p < 4096 → getD (now (numbers .exit)) p 0 ≡ numberOr p) ⌝ }
 {

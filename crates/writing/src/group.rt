@@ -70,3 +70,104 @@ fn store_rows<T: Recordable, C: LineCode>(
         store_track(tape, code, number, t, &rows[2912 * t..2912 * t + 2912], numbers, array, buffer);
     }
 }
+
+/// Makes the rows of a group on the bench, and stores their tracks.
+fn store_group<T: Recordable, C: LineCode>(
+    tape: &mut T,
+    code: &C,
+    settings: Settings,
+    number: u16,
+    group: &[u8],
+    bench: &mut [u8],
+    buffer: &mut [u16],
+)
+    requires { ⌜ 0 < number ⌝ }
+    requires { ⌜ 46 * number ≤ length (T·Playable .tracks (now tape)) ⌝ }
+    requires { ⌜ settings .start < 32768 ⌝ }
+    requires { ⌜ length (now group) ≡ 126632 ⌝ }
+    requires { ⌜ length (now bench) ≡ 138048 ⌝ }
+    requires { ⌜ length (now buffer) ≡ 4608 ⌝ }
+    ensures kept { λ _. ⌜ T·Recordable .rest (now (tape .exit)) ≡ T·Recordable .rest (now (tape .entry)) ⌝ }
+    ensures tape { λ _. ⌜ T·Playable .tracks (now (tape .exit)) ≡ withGroup (codeOf (C·LineCode .encode (now (code .entry))) (C·LineCode .decode (now (code .entry)))) (settings .tap) (settings .start) number (now (group .entry)) (T·Playable .tracks (now (tape .entry))) ⌝ }
+{
+    let mut pad = [0u8; 5756];
+    let mut numbers = [0u16; 4096];
+    rows::make_rows(settings.tap, settings.start, group, &mut pad, bench);
+    array::number_places(&mut numbers);
+    let (rows, array) = bench.split_at_mut(133_952);
+    store_rows(tape, code, number, rows, &numbers, array, buffer);
+}
+
+/// Tests the lent memory and the settings.
+fn check_lent(buffer: usize, settings: Settings, group: usize, bench: usize) -> Result<(), WriteFault>
+    ensures { λ r. ⌜ r ≡ lent buffer (settings .tap) (settings .start) group bench ⌝ }
+{
+    if buffer != 4608 {
+        return Err(WriteFault::TrackBuffer);
+    }
+    if settings.tap >= 32768 {
+        return Err(WriteFault::Setting);
+    }
+    if settings.start >= 32768 {
+        return Err(WriteFault::Setting);
+    }
+    if group != 126_632 {
+        return Err(WriteFault::GroupBuffer);
+    }
+    if bench != 138_048 {
+        return Err(WriteFault::Bench);
+    }
+    Ok(())
+}
+
+/// Writes a group where the tape has it.
+fn put_group<T: Recordable, C: LineCode>(
+    tape: &mut T,
+    code: &C,
+    settings: Settings,
+    number: u16,
+    group: &[u8],
+    bench: &mut [u8],
+    buffer: &mut [u16],
+) -> Result<(), WriteFault>
+    requires { ⌜ settings .start < 32768 ⌝ }
+    requires { ⌜ length (now group) ≡ 126632 ⌝ }
+    requires { ⌜ length (now bench) ≡ 138048 ⌝ }
+    requires { ⌜ length (now buffer) ≡ 4608 ⌝ }
+    ensures answer { λ r. ⌜ r ≡ reached number (length (T·Playable .tracks (now (tape .entry)))) ⌝ }
+    ensures kept { λ _. ⌜ T·Recordable .rest (now (tape .exit)) ≡ T·Recordable .rest (now (tape .entry)) ⌝ }
+    ensures tape { λ _. ⌜ T·Playable .tracks (now (tape .exit)) ≡ outcome (reached number (length (T·Playable .tracks (now (tape .entry))))) (withGroup (codeOf (C·LineCode .encode (now (code .entry))) (C·LineCode .decode (now (code .entry)))) (settings .tap) (settings .start) number (now (group .entry)) (T·Playable .tracks (now (tape .entry)))) (T·Playable .tracks (now (tape .entry))) ⌝ }
+{
+    if number == 0 {
+        return Err(WriteFault::NoGroup);
+    }
+    if 46 * number as usize > tape.length() {
+        return Err(WriteFault::NoGroup);
+    }
+    store_group(tape, code, settings, number, group, bench, buffer);
+    Ok(())
+}
+
+/// Writes a group on its 46 tracks, and leaves bench and track buffer zero. A call that is declined for the lent memory
+/// or the settings leaves everything as it was.
+pub fn write_group<T: Recordable, C: LineCode>(
+    tape: &mut T,
+    code: &C,
+    settings: Settings,
+    number: u16,
+    group: &[u8],
+    bench: &mut [u8],
+    buffer: &mut [u16],
+) -> Result<(), WriteFault>
+    ensures answer { λ r. ⌜ r ≡ andThen (lent (length (now (buffer .entry))) (settings .tap) (settings .start) (length (now (group .entry))) (length (now (bench .entry)))) (reached number (length (T·Playable .tracks (now (tape .entry))))) ⌝ }
+    ensures kept { λ _. ⌜ T·Recordable .rest (now (tape .exit)) ≡ T·Recordable .rest (now (tape .entry)) ⌝ }
+    ensures tape { λ r. ⌜ T·Playable .tracks (now (tape .exit)) ≡ outcome r (withGroup (codeOf (C·LineCode .encode (now (code .entry))) (C·LineCode .decode (now (code .entry)))) (settings .tap) (settings .start) number (now (group .entry)) (T·Playable .tracks (now (tape .entry)))) (T·Playable .tracks (now (tape .entry))) ⌝ }
+    ensures bench { λ _. ⌜ now (bench .exit) ≡ outcome (lent (length (now (buffer .entry))) (settings .tap) (settings .start) (length (now (group .entry))) (length (now (bench .entry)))) (replicate (length (now (bench .entry))) 0) (now (bench .entry)) ⌝ }
+    ensures buffer { λ _. ⌜ now (buffer .exit) ≡ outcome (lent (length (now (buffer .entry))) (settings .tap) (settings .start) (length (now (group .entry))) (length (now (bench .entry)))) (replicate (length (now (buffer .entry))) 0) (now (buffer .entry)) ⌝ }
+{
+    check_lent(buffer.len(), settings, group.len(), bench.len())?;
+    let answer = put_group(tape, code, settings, number, group, bench, buffer);
+    bench.fill(0);
+    buffer.fill(0);
+    answer
+}
