@@ -1,5 +1,5 @@
 -- Laws of what calls answer.
-use mathlib.Core.Path.{_≡_, refl, sym, ap, _∙_}
+use mathlib.Core.Path.{_≡_, refl, sym, _∙_}
 use mathlib.Core.List.{List, [], _∷_}
 use mathlib.Core.Bool.{Bool, true, false, cond}
 use mathlib.Core.Logic.{⊎-elim}
@@ -9,10 +9,11 @@ use lib.Dec.{eqb, ltb}
 use lib.ListN.{length, getD, drop}
 use Rattle.std.proofs.shelf.Lists.{drop-more, drop-all}
 use Rattle.std.proofs.shelf.Tests.{lt-ltb, le-ltb, ltb-true, eqb-true, cases-lt, true≢false}
+use Rattle.std.specs.declared.option.Option.the-variants.{Some, None}
 use Rattle.std.specs.declared.result.Result.the-variants.{Ok, Err}
 use Rattle.tape.specs.declared.fault.TapeFault.{TapeFault}
-use Rattle.tape.specs.declared.fault.TapeFault.the-variants.{NoTrack, WrongBuffer, WideWord}
-use Rattle.tape.specs.Tape.{Answer, narrow, andThen, outcome, storing, blanking}
+use Rattle.tape.specs.declared.fault.TapeFault.the-variants.{NoTrack, Blank, WrongBuffer, WideWord}
+use Rattle.tape.specs.Tape.{Answer, Track, Sound, SoundTrack, narrow, andThen, outcome, playing, fetched, delivered, storing, blanking}
 
 pub narrow-none : (xs : List ℕ) (i : ℕ) → length xs ≤ i → narrow (drop i xs) ≡ true
 narrow-none xs i l = rw (drop-all i xs l)
@@ -65,3 +66,20 @@ blanking-ok n k h = go (ltb k n) refl h
     go : (b : Bool) → ltb k n ≡ b → _≡_ {A = Answer} (cond b (Ok tt) (Err NoTrack)) (Ok tt) → k < n
     go true y e = ltb-true _ _ y
     go false y e = absurd (declined NoTrack e)
+
+-- a fetch that is done delivers the words of the track
+pub fetched-ok : (ts : List Track) (k : ℕ) (buf : List ℕ) → fetched ts k (length buf) ≡ Ok tt
+    → (length buf ≡ 4608) × (k < length ts) × (getD ts k None ≡ Some (delivered ts k buf))
+fetched-ok ts k buf h = go (eqb (length buf) 4608) (ltb k (length ts)) (getD ts k None) refl refl refl h
+  where
+    go : (a b : Bool) (t : Track) → eqb (length buf) 4608 ≡ a → ltb k (length ts) ≡ b → getD ts k None ≡ t
+        → andThen (cond a (cond b (Ok tt) (Err NoTrack)) (Err WrongBuffer)) (playing t) ≡ Ok tt
+        → (length buf ≡ 4608) × (k < length ts) × (getD ts k None ≡ Some (delivered ts k buf))
+    go true true (Some ws) x y z e = (eqb-true _ _ x, ltb-true _ _ y, z ∙ sym (simp (x, y, z)))
+    go true true None x y z e = absurd (declined Blank e)
+    go true false t x y z e = absurd (declined NoTrack e)
+    go false b t x y z e = absurd (declined WrongBuffer e)
+
+-- and they are 4,608, each below 1,024
+pub delivered-sound : (ts : List Track) (k : ℕ) (buf : List ℕ) → Sound ts → fetched ts k (length buf) ≡ Ok tt → SoundTrack (Some (delivered ts k buf))
+delivered-sound ts k buf s h = let ok = fetched-ok ts k buf h in rw (ok .2) at (s k (ok .1))

@@ -1,6 +1,6 @@
 -- Laws of a list that is made part by part, each of one size.
 use mathlib.Core.Path.{_≡_, refl, sym, ap, _∙_}
-use mathlib.Core.List.{List, [], _∷_, _++_}
+use mathlib.Core.List.{List, [], _++_}
 use mathlib.Core.Logic.{⊎-elim}
 use Prim.Native.Nat.{ℕ, zero, suc, _+_, _-_, _*_, _<_, _≤_}
 use native.Mathlib.Omega.{arith}
@@ -8,7 +8,7 @@ use native.Mathlib.Nat.{suc-mul, zero-mul, mul-le-mul-right}
 use native.Mathlib.Numerals.{add-one}
 use borrow.Rule.Slice.PartMut.{putMid}
 use lib.ListN.{length, getD, take, drop}
-use Rattle.std.proofs.shelf.Lists.{length-append, append-assoc, take-at, drop-at, take-all, drop-all, drop-drop, drop-take, take-take, take-append-drop, drop-append-le, take-append-le, append-nil, getD-append-left, getD-append-right, length-take, length-drop}
+use Rattle.std.proofs.shelf.Lists.{length-append, append-assoc, take-at, drop-at, take-all, drop-all, drop-drop, drop-take, take-take, take-append-drop, drop-append-le, take-append-le, append-nil, getD-append-left, getD-append-right, length-drop}
 use Rattle.std.proofs.shelf.Tests.{cases-lt}
 use Rattle.tape.specs.Images.{part, chain}
 
@@ -45,9 +45,9 @@ chain-all P f z h (suc n) j =
     let before = chain-all P f z h n j in
     rw (chain-suc f n)
     (⊎-elim
-      (λ (l : j < length (chain f n)). rw (getD-append-left (chain f n) (f n) 0 j l) before)
-      (λ (l : length (chain f n) ≤ j). rw (getD-append-right (chain f n) (f n) (length (chain f n)) j 0 refl l) (h n (j - length (chain f n))))
-      (cases-lt j (length (chain f n))))
+    (λ (l : j < length (chain f n)). rw (getD-append-left (chain f n) (f n) 0 j l) before)
+    (λ (l : length (chain f n) ≤ j). rw (getD-append-right (chain f n) (f n) (length (chain f n)) j 0 refl l) (h n (j - length (chain f n))))
+    (cases-lt j (length (chain f n))))
 
 module _ (s : ℕ) (f : ℕ → List ℕ) (each : (q : ℕ) → length (f q) ≡ s) where
   pub length-chain : (n : ℕ) → length (chain f n) ≡ n * s
@@ -64,15 +64,15 @@ module _ (s : ℕ) (f : ℕ → List ℕ) (each : (q : ℕ) → length (f q) ≡
       let before = part-chain n q in
       ap (λ (xs : List ℕ). part s xs q) (chain-suc f n)
       ∙ ⊎-elim
-        (λ (b : q < n).
-          let le : suc q ≤ n = omega arith in
-          let r : q * s + s ≤ length (chain f n) = omega (arith, mul-le-mul-right s le, suc-mul q s) in
-          ap (take s) (drop-append-le (q * s) (chain f n) (f n) (omega arith))
-          ∙ (take-append-le s (drop (q * s) (chain f n)) (f n) (simp length-drop (omega arith)) ∙ before b))
-        (λ (b : n ≤ q).
-          let e : q ≡ n = omega arith in
-          rw e (ap (take s) (drop-at (chain f n) (f n) (n * s) long) ∙ take-all s (f n) (omega (arith, each n))))
-        (cases-lt q n)
+      (λ (b : q < n).
+      let le : suc q ≤ n = omega arith in
+      let r : q * s + s ≤ length (chain f n) = omega (arith, mul-le-mul-right s le, suc-mul q s) in
+      ap (take s) (drop-append-le (q * s) (chain f n) (f n) (omega arith))
+      ∙ (take-append-le s (drop (q * s) (chain f n)) (f n) (simp length-drop (omega arith)) ∙ before b))
+      (λ (b : n ≤ q).
+      let e : q ≡ n = omega arith in
+      rw e (ap (take s) (drop-at (chain f n) (f n) (n * s) long) ∙ take-all s (f n) (omega (arith, each n))))
+      (cases-lt q n)
 
   -- a loop that writes part after part over xs
   pub chain-more : (xs now ys : List ℕ) (n k : ℕ) → now ≡ chain f n ++ drop (n * s) xs → ys ≡ f n → k ≡ s
@@ -84,10 +84,10 @@ module _ (s : ℕ) (f : ℕ → List ℕ) (each : (q : ℕ) → length (f q) ≡
       let at : n * s + k ≡ suc n * s = omega (arith, suc-mul n s) in
       let rest : drop k (drop (n * s) now) ≡ drop (suc n * s) xs = ap (drop k) back ∙ (drop-drop k (n * s) xs ∙ ap (λ (q : ℕ). drop q xs) at) in
       let joined : (take (n * s) now ++ (ys ++ drop k (drop (n * s) now))) ≡ chain f (suc n) ++ drop (suc n * s) xs
-            = ap (λ (a : List ℕ). a ++ (ys ++ drop k (drop (n * s) now))) front
-            ∙ (ap (λ (a : List ℕ). chain f n ++ (a ++ drop k (drop (n * s) now))) y
-            ∙ (ap (λ (a : List ℕ). chain f n ++ (f n ++ a)) rest
-            ∙ (sym (append-assoc (chain f n) (f n) (drop (suc n * s) xs)) ∙ ap (λ (a : List ℕ). a ++ drop (suc n * s) xs) (sym (chain-suc f n))))) in
+      = ap (λ (a : List ℕ). a ++ (ys ++ drop k (drop (n * s) now))) front
+      ∙ (ap (λ (a : List ℕ). chain f n ++ (a ++ drop k (drop (n * s) now))) y
+      ∙ (ap (λ (a : List ℕ). chain f n ++ (f n ++ a)) rest
+      ∙ (sym (append-assoc (chain f n) (f n) (drop (suc n * s) xs)) ∙ ap (λ (a : List ℕ). a ++ drop (suc n * s) xs) (sym (chain-suc f n))))) in
       joined ∙ ap (λ (m : ℕ). chain f m ++ drop (m * s) xs) (sym (add-one n))
 
   -- and its end

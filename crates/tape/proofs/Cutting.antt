@@ -1,8 +1,8 @@
 -- Laws of lists that are cut into parts of one size.
-use mathlib.Core.Path.{_≡_, refl, sym, ap, _∙_}
+use mathlib.Core.Path.{_≡_, sym, ap, _∙_}
 use mathlib.Core.List.{List, [], _∷_, _++_}
 use mathlib.Core.Logic.{_⊎_, inl, inr, ⊎-elim}
-use Prim.Native.Nat.{ℕ, zero, suc, _+_, _-_, _*_, _/_, _<_, _≤_}
+use Prim.Native.Nat.{ℕ, suc, _+_, _-_, _*_, _/_, _<_, _≤_}
 use native.Mathlib.Omega.{arith}
 use native.Mathlib.Nat.{mul-le-mul-right, suc-mul, div-mul-le-self}
 use borrow.Author.Needs.{needs}
@@ -65,7 +65,7 @@ paste-flag xs ys v at n s e f l =
     let front : take (at + 1) (set xs at v) ≡ take at xs ++ v ∷ [] = take-more-set xs at v (omega arith) in
     let p : at + 1 + n ≡ at + s = omega arith in
     let rest : drop n (drop (at + 1) (set xs at v)) ≡ drop (at + s) xs
-          = ap (drop n) (drop-set-lt (at + 1) xs at v (omega arith)) ∙ (drop-drop n (at + 1) xs ∙ ap (λ (q : ℕ). drop q xs) p) in
+    = ap (drop n) (drop-set-lt (at + 1) xs at v (omega arith)) ∙ (drop-drop n (at + 1) xs ∙ ap (λ (q : ℕ). drop q xs) p) in
     let all : take s (v ∷ ys) ≡ v ∷ ys = take-all s (v ∷ ys) (omega arith) in
     ap (λ (a : List ℕ). a ++ (ys ++ drop n (drop (at + 1) (set xs at v)))) front
     ∙ (ap (λ (a : List ℕ). (take at xs ++ v ∷ []) ++ (ys ++ a)) rest

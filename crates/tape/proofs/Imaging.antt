@@ -1,15 +1,14 @@
 -- Laws of images in memory, over the number of numbers a track and what they mean.
-use mathlib.Core.Path.{_≡_, refl, sym, ap, _∙_}
-use mathlib.Core.List.{List, [], _∷_, _++_, map}
-use mathlib.Core.Bool.{Bool, true, false, cond}
+use mathlib.Core.Path.{_≡_, sym, ap, _∙_}
+use mathlib.Core.List.{List, _∷_}
+use mathlib.Core.Bool.{true, false, cond}
 use mathlib.Core.Logic.{_⊎_, inl, inr, ⊎-elim}
-use Prim.Native.Nat.{ℕ, zero, suc, _+_, _-_, _*_, _/_, _<_, _≤_}
+use Prim.Native.Nat.{ℕ, _+_, _-_, _*_, _/_, _<_, _≤_}
 use native.Mathlib.Omega.{arith}
 use native.Mathlib.Nat.{zero-add, add-zero}
-use lib.Dec.{eqb, ltb}
-use lib.ListN.{length, getD, set, take, drop}
+use lib.Dec.{eqb}
+use lib.ListN.{length, getD, set, drop}
 use lib.Seq.{paste}
-use Rattle.std.specs.Iters.{counting}
 use Rattle.std.proofs.shelf.Counted.{length-map-counting, getD-map-counting}
 use Rattle.std.proofs.shelf.Lists.{length-set, getD-set-same, getD-set-other, ext-getD}
 use Rattle.std.proofs.shelf.Tests.{cases-eq, ne-eqb}
@@ -17,7 +16,7 @@ use Rattle.std.specs.declared.option.Option.the-variants.{Some, None}
 use Rattle.std.specs.declared.result.Result.the-variants.{Ok, Err}
 use Rattle.tape.specs.declared.fault.TapeFault.{TapeFault}
 use Rattle.tape.specs.declared.fault.TapeFault.the-variants.{Blank}
-use Rattle.tape.specs.Tape.{Track, Sound, SoundTrack, reached, fetched, delivered, outcome, storing, stored, blanking, blanked}
+use Rattle.tape.specs.Tape.{Sound, SoundTrack, reached, fetched, delivered, storing, stored, blanking, blanked}
 use Rattle.tape.specs.Images.{part, trackOf, imageTracks, imageStored, imageBlanked}
 use Rattle.tape.proofs.Answering.{outcome-ap, outcome-same, storing-ok, blanking-ok}
 use Rattle.tape.proofs.Cutting.{room, apart, length-part, getD-part, part-same, paste-length, paste-below, paste-above, part-paste}
@@ -41,15 +40,15 @@ module _ (s : ℕ) (pos : 0 < s) (w : List ℕ → List ℕ) where
       let n : length (set (imageTracks s w m) k t) ≡ length m / s = length-set (imageTracks s w m) k t ∙ length-image m in
       ext-getD None (imageTracks s w m′) (set (imageTracks s w m) k t) (n′ ∙ sym n)
       (λ i il.
-        let i1 : i < length m / s = omega arith in
-        let i2 : i < length m′ / s = rw e i1 in
-        let kl : k < length (imageTracks s w m) = omega (arith, length-image m) in
-        get-image m′ i i2 ∙ ⊎-elim
-          (λ (q : i ≡ k). rw q (sym (getD-set-same (imageTracks s w m) k t None kl)))
-          (λ (q : i ≡ k → ⊥).
-            ap (trackOf w) (part-same s m m′ i e (λ j jl. h (i * s + j) (⊎-elim (λ (b : i * s + s ≤ k * s). inl (omega arith)) (λ (b : k * s + s ≤ i * s). inr (omega arith)) (apart s i k q))))
-            ∙ sym (getD-set-other (imageTracks s w m) k i t None q ∙ get-image m i i1))
-          (cases-eq i k))
+      let i1 : i < length m / s = omega arith in
+      let i2 : i < length m′ / s = rw e i1 in
+      let kl : k < length (imageTracks s w m) = omega (arith, length-image m) in
+      get-image m′ i i2 ∙ ⊎-elim
+      (λ (q : i ≡ k). rw q (sym (getD-set-same (imageTracks s w m) k t None kl)))
+      (λ (q : i ≡ k → ⊥).
+      ap (trackOf w) (part-same s m m′ i e (λ j jl. h (i * s + j) (⊎-elim (λ (b : i * s + s ≤ k * s). inl (omega arith)) (λ (b : k * s + s ≤ i * s). inr (omega arith)) (apart s i k q))))
+      ∙ sym (getD-set-other (imageTracks s w m) k i t None q ∙ get-image m i i1))
+      (cases-eq i k))
 
   -- a blank of an image is a blank of its tape
   pub image-blanked : (m : List ℕ) (k : ℕ) → imageTracks s w (imageBlanked s m k) ≡ blanked (imageTracks s w m) k

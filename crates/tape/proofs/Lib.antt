@@ -1,7 +1,7 @@
-mod Answering
-mod Cutting
-mod Imaging
-mod Wording
-mod Chaining
-mod Packing
-mod Windowing
+pub mod Answering
+pub mod Cutting
+pub mod Imaging
+pub mod Wording
+pub mod Chaining
+pub mod Packing
+pub mod Windowing

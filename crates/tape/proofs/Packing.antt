@@ -1,15 +1,15 @@
 -- Laws of the packed image.
 use mathlib.Core.Path.{_≡_, refl, sym, ap, _∙_}
-use mathlib.Core.List.{List, [], _∷_, _++_}
-use Prim.Native.Nat.{ℕ, zero, suc, _+_, _-_, _*_, _/_, _%_, _^_, _<_, _≤_}
+use mathlib.Core.List.{List, [], _∷_}
+use Prim.Native.Nat.{ℕ, zero, suc, _+_, _-_, _*_, _/_, _%_, _^_, _<_}
 use native.Mathlib.Omega.{arith}
 use native.Mathlib.Nat.{div-add-mod', div-div-eq-div-mul, mod-eq-of-lt}
 use lib.Dec.{lit<}
-use lib.ListN.{length, getD, set, take, drop}
+use lib.ListN.{length, getD, set, drop}
 use Rattle.std.proofs.shelf.Lists.{take-all}
 use Rattle.std.specs.declared.option.Option.the-variants.{Some}
 use Rattle.tape.specs.Tape.{Sound, SoundTrack, narrow, stored}
-use Rattle.tape.specs.Images.{part, fromBytes, fromWords, fiveBytes, fourWords, chain, packed, unpacked, packedAt, unpackedAt, packedTracks, packedStored}
+use Rattle.tape.specs.Images.{part, fromBytes, fromWords, fiveBytes, fourWords, packed, unpacked, packedAt, unpackedAt, packedTracks, packedStored}
 use Rattle.tape.proofs.Answering.{narrow-get, storing-ok}
 use Rattle.tape.proofs.Cutting.{length-part, getD-part}
 use Rattle.tape.proofs.Chaining.{chain-same, chain-parts, chain-all, length-chain, part-chain}
@@ -92,6 +92,14 @@ unpacked-packed ws e h =
         ap (λ (bs : List ℕ). fourWords (fromBytes bs)) (part-chain 5 (packedAt ws) (five-long ws) 1152 q l)
         ∙ quad (part 4 ws q) (length-part 4 ws q (omega arith)) (λ j jl. rw (getD-part 4 ws q j jl) (h (q * 4 + j) (omega arith)))
 
+-- word j of a track is digit j mod 4 of quad j / 4
+pub unpacked-word : (bs : List ℕ) (j : ℕ) → j < 4608 → getD (unpacked bs) j 0 ≡ getD (fourWords (fromBytes (part 5 bs (j / 4)))) (j % 4) 0
+unpacked-word bs j l =
+    let e : j ≡ j / 4 * 4 + j % 4 = omega arith in
+    ap (λ (i : ℕ). getD (unpacked bs) i 0) e
+    ∙ (sym (getD-part 4 (unpacked bs) (j / 4) (j % 4) (omega arith))
+    ∙ ap (λ (ws : List ℕ). getD ws (j % 4) 0) (part-chain 4 (unpackedAt bs) (four-long bs) 1152 (j / 4) (omega arith)))
+
 pub packed-sound : (m : List ℕ) → Sound (packedTracks m)
 packed-sound m = image-sound 5761 (lit< tt) unpacked m track
   where
@@ -103,5 +111,5 @@ pub packed-stored : (m : List ℕ) (k : ℕ) (buf : List ℕ) → packedTracks (
 packed-stored m k buf =
     image-stored 5761 (lit< tt) unpacked packed m k buf
     (λ ok.
-      let t = storing-ok (length m / 5761) k buf ok in
-      (omega (arith, packed-long buf), unpacked-packed buf (t .0) (λ j l. narrow-get buf j (t .2) l)))
+    let t = storing-ok (length m / 5761) k buf ok in
+    (omega (arith, packed-long buf), unpacked-packed buf (t .0) (λ j l. narrow-get buf j (t .2) l)))

@@ -1,15 +1,15 @@
 -- Laws of windows.
 use mathlib.Core.Path.{_≡_, refl, sym, ap, _∙_}
-use mathlib.Core.List.{List, [], _∷_}
+use mathlib.Core.List.{List, [], _∷_, _++_}
 use Prim.Native.Nat.{ℕ, zero, suc, _+_, _-_, _<_, _≤_, min}
 use native.Mathlib.Omega.{arith}
 use lib.ListN.{length, getD, set, take, drop}
-use Rattle.std.proofs.shelf.Lists.{length-take, length-drop, getD-take, getD-drop, drop-set-add, take-set-le, drop-set-lt}
+use Rattle.std.proofs.shelf.Lists.{length-take, length-drop, getD-take, getD-drop, drop-drop, drop-set-add, take-append-drop, take-set-le, drop-set-lt}
 use Rattle.std.proofs.shelf.Tests.{lt-ltb, le-ltb, eq-eqb, ne-eqb}
-use Rattle.std.specs.declared.option.Option.the-variants.{Some, None}
+use Rattle.std.specs.declared.option.Option.the-variants.{None}
 use Rattle.std.specs.declared.result.Result.the-variants.{Ok, Err}
 use Rattle.tape.specs.declared.fault.TapeFault.the-variants.{NoTrack, WrongBuffer}
-use Rattle.tape.specs.Tape.{Answer, Track, Sound, SoundTrack, outcome, reached, fetched, delivered, storing, stored, blanking, blanked}
+use Rattle.tape.specs.Tape.{Answer, Track, Sound, outcome, fetched, delivered, storing, blanking}
 use Rattle.tape.specs.Windows.{windowTracks}
 use Rattle.tape.proofs.Answering.{outcome-ap}
 
@@ -24,6 +24,12 @@ pub window-sound : (f c : ℕ) (ts : List Track) → Sound ts → Sound (windowT
 window-sound f c ts s k l =
     let h : k < min c (length ts - f) = rw (window-length f c ts) at l in
     rw (window-get f c k ts None (omega arith)) (s (f + k) (omega arith))
+
+-- the tracks before a window, in it and after it are the tape below
+pub window-whole : (f c : ℕ) (ts : List Track) → take f ts ++ (windowTracks f c ts ++ drop (f + c) ts) ≡ ts
+window-whole f c ts =
+    ap (λ (us : List Track). take f ts ++ (windowTracks f c ts ++ us)) (sym (drop-drop c f ts))
+    ∙ (ap (λ (us : List Track). take f ts ++ us) (take-append-drop c (drop f ts)) ∙ take-append-drop f ts)
 
 take-set-in : {X : Type 0} (c : ℕ) (l : List X) (k : ℕ) (v : X) → take c (set l k v) ≡ set (take c l) k v
 take-set-in zero l k v = refl
@@ -89,3 +95,6 @@ module _ (f c k : ℕ) (ts : List Track) (h : min c (length ts - f) ≤ k) where
 -- a buffer of the wrong size
 pub fetched-wrong : (ts : List Track) (k n : ℕ) → (n ≡ 4608 → ⊥) → fetched ts k n ≡ Err WrongBuffer
 fetched-wrong ts k n e = simp (ne-eqb n 4608 e)
+
+pub storing-wrong : (n k : ℕ) (b : List ℕ) → (length b ≡ 4608 → ⊥) → storing n k b ≡ Err WrongBuffer
+storing-wrong n k b e = simp (ne-eqb (length b) 4608 e)

@@ -1,8 +1,7 @@
 -- Laws of the word image.
-use mathlib.Core.Path.{_≡_, refl, sym, ap, _∙_}
-use mathlib.Core.List.{List, [], _∷_, map}
-use mathlib.Core.Bool.{cond}
-use Prim.Native.Nat.{ℕ, zero, suc, _+_, _-_, _/_, _<_, _≤_}
+use mathlib.Core.Path.{_≡_, _∙_}
+use mathlib.Core.List.{List, map}
+use Prim.Native.Nat.{ℕ, _-_, _/_, _<_}
 use native.Mathlib.Omega.{arith}
 use lib.Dec.{ltb, lit<}
 use lib.ListN.{length, getD, drop}
@@ -22,8 +21,8 @@ capped-narrow : (ws : List ℕ) → ((j : ℕ) → j < length ws → getD ws j 0
 capped-narrow ws h =
     ext-getD 0 (map capped ws) ws (length-map ws capped)
     (λ j l.
-      let jl : j < length ws = omega (arith, length-map ws capped) in
-      getD-map capped ws j 0 0 jl ∙ cond-true (ltb (getD ws j 0) 1024) (getD ws j 0) 0 (lt-ltb (getD ws j 0) 1024 (h j jl)))
+    let jl : j < length ws = omega (arith, length-map ws capped) in
+    getD-map capped ws j 0 0 jl ∙ cond-true (ltb (getD ws j 0) 1024) (getD ws j 0) 0 (lt-ltb (getD ws j 0) 1024 (h j jl)))
 
 pub word-sound : (m : List ℕ) → Sound (wordTracks m)
 word-sound m = image-sound 4609 (lit< tt) (map capped) m track

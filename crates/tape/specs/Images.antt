@@ -17,7 +17,7 @@ part size xs k = take size (drop (k * size) xs)
 abbrev pub trackOf : (List ℕ → List ℕ) → List ℕ → Track
 trackOf words numbers = cond (eqb (getD numbers 0 0) 1) (Some (words (drop 1 numbers))) None
 
--- the tape in an image of `stride` numbers a track: as many tracks as are there whole
+-- the tape in an image of `stride` numbers a track: as many tracks as are there whole, and a part of one at the end is none
 unfoldable pub imageTracks : ℕ → (List ℕ → List ℕ) → List ℕ → List Track
 imageTracks stride words memory = map (λ k. trackOf words (part stride memory k)) (counting 0 (length memory / stride))
 
@@ -30,56 +30,68 @@ imageStored stride form memory k buf =
 abbrev pub imageBlanked : ℕ → List ℕ → ℕ → List ℕ
 imageBlanked stride memory k = outcome (blanking (length memory / stride) k) (set memory (k * stride) 0) memory
 
--- a word image: 4,609 numbers a track; a number above 1,023 counts as 0
+-- a stored number above 1,023 counts as 0
 abbrev pub capped : ℕ → ℕ
 capped w = cond (ltb w 1024) w 0
 
+-- a word image has 4,609 numbers a track: the flag and a number to each word; this is its tape,
 abbrev pub wordTracks : List ℕ → List Track
 wordTracks = imageTracks 4609 (map capped)
 
+-- and its memory after a store,
 abbrev pub wordStored : List ℕ → ℕ → List ℕ → List ℕ
 wordStored = imageStored 4609 (λ ws. ws)
 
+-- and after a blank
 abbrev pub wordBlanked : List ℕ → ℕ → List ℕ
 wordBlanked = imageBlanked 4609
 
--- four words, ten bits each, are the forty bits of five bytes: one number, read and written with the highest digit first
+-- a quad is four words of ten bits, and the five bytes that the same forty bits are, highest bit first: one number, whose
+-- digits are the words in base 1,024 and the bytes in base 256, the highest digit first; this is the number of four words,
 abbrev pub fromWords : List ℕ → ℕ
 fromWords ws = ((getD ws 0 0 * 1024 + getD ws 1 0) * 1024 + getD ws 2 0) * 1024 + getD ws 3 0
 
+-- and of five bytes,
 abbrev pub fromBytes : List ℕ → ℕ
 fromBytes bs = (((getD bs 0 0 * 256 + getD bs 1 0) * 256 + getD bs 2 0) * 256 + getD bs 3 0) * 256 + getD bs 4 0
 
+-- the four words of a number,
 abbrev pub fourWords : ℕ → List ℕ
 fourWords n = n / 1024 ^ 3 % 1024 ∷ n / 1024 ^ 2 % 1024 ∷ n / 1024 % 1024 ∷ n % 1024 ∷ []
 
+-- and its five bytes
 abbrev pub fiveBytes : ℕ → List ℕ
 fiveBytes n = n / 256 ^ 4 % 256 ∷ n / 256 ^ 3 % 256 ∷ n / 256 ^ 2 % 256 ∷ n / 256 % 256 ∷ n % 256 ∷ []
 
--- f 0, f 1 and so on, n of them, one after another
+-- the lists f 0, f 1 and so on, n of them, one after another
 unfoldable pub chain : (ℕ → List ℕ) → ℕ → List ℕ
 chain f zero = []
 chain f (suc n) = chain f n ++ f n
 
--- the words of each five bytes, and the bytes of each four words: a track has 1,152 of them
+-- the words of quad q, from the bytes of a track without its flag
 abbrev pub unpackedAt : List ℕ → ℕ → List ℕ
 unpackedAt bs q = fourWords (fromBytes (part 5 bs q))
 
+-- the bytes of quad q, from the words of a track
 abbrev pub packedAt : List ℕ → ℕ → List ℕ
 packedAt ws q = fiveBytes (fromWords (part 4 ws q))
 
+-- the words of a track, from its bytes without the flag: a track has 1,152 quads
 abbrev pub unpacked : List ℕ → List ℕ
 unpacked bs = chain (unpackedAt bs) 1152
 
+-- the bytes of a track without the flag, from its words
 abbrev pub packed : List ℕ → List ℕ
 packed ws = chain (packedAt ws) 1152
 
--- a packed image: 5,761 bytes a track
+-- a packed image has 5,761 bytes a track: the flag and the packed words; this is its tape,
 abbrev pub packedTracks : List ℕ → List Track
 packedTracks = imageTracks 5761 unpacked
 
+-- and its memory after a store,
 abbrev pub packedStored : List ℕ → ℕ → List ℕ → List ℕ
 packedStored = imageStored 5761 packed
 
+-- and after a blank
 abbrev pub packedBlanked : List ℕ → ℕ → List ℕ
 packedBlanked = imageBlanked 5761

@@ -3,8 +3,8 @@ ghost use Prim.Native.Nat.{_<_};
 ghost use lib.ListN.{length};
 ghost use Rattle.std.specs.Vec.{made};
 ghost use Rattle.tape.specs.Tape.{narrow, reached, storing};
-
 use crate::fault::TapeFault;
+use crate::traits::WORD_LIMIT;
 use crate::traits::WORDS;
 
 /// Tests the track buffer's size, then that there is such a track among `tracks`.
@@ -26,7 +26,7 @@ fn all_narrow(words: &[u16]) -> bool
     ensures { λ r. ⌜ r ≡ narrow (now (words .entry)) ⌝ }
 {
     for w in words {
-        if *w >= 1024 {
+        if *w >= WORD_LIMIT {
             return false;
         }
     }

@@ -1,7 +1,5 @@
-ghost use mathlib.Core.Path.{_≡_};
 ghost use denote.Ref.{now as behind};
 ghost use Rattle.tape.specs.Images.{wordTracks};
-
 use crate::fault::TapeFault;
 use crate::traits::Playable;
 use crate::word_image::STRIDE;

@@ -1,23 +1,8 @@
-ghost use mathlib.Core.Path.{_≡_};
 ghost use base.Fml.{GName};
 ghost use denote.Ref.{name, now as behind};
-
 use crate::fault::TapeFault;
 use crate::traits::Playable;
 use crate::traits::Recordable;
-
-/// A tape that is lent to be played is a tape.
-pub impl<T: Playable> Playable for &T as SharedPlayable {
-    ghost tracks = { λ s. T·Playable .tracks (behind s) };
-
-    fn length(&self) -> usize {
-        (**self).length()
-    }
-
-    fn fetch(&self, track: usize, buffer: &mut [u16]) -> Result<(), TapeFault> {
-        (**self).fetch(track, buffer)
-    }
-}
 
 /// A tape that is lent to be changed is a tape.
 pub impl<T: Playable> Playable for &mut T as LentPlayable {

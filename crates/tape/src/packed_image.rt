@@ -5,18 +5,18 @@ ghost use base.Fml.{GName};
 ghost use denote.Ref.{name, now as behind};
 ghost use Rattle.tape.specs.Tape.{fetched, delivered, storing, stored, blanking, blanked};
 ghost use Rattle.tape.specs.Images.{fromBytes, fromWords, fiveBytes, fourWords, packed, unpacked, packedTracks, packedStored, packedBlanked};
-
 use crate::checks::reach;
 use crate::checks::storable;
 use crate::fault::TapeFault;
 use crate::traits::Playable;
 use crate::traits::Recordable;
+use crate::traits::WORDS;
 
-/// How many bytes a track takes: the flag, and five for each four words.
-pub const STRIDE: usize = 5761;
+/// How many quads a track has: a quad is four words, which are the forty bits of five bytes.
+const QUADS: usize = WORDS / 4;
 
-/// How many times four words, or five bytes, a track has.
-const QUADS: usize = 1152;
+/// How many bytes a track takes: the flag, and five for each quad.
+pub const STRIDE: usize = 1 + 5 * QUADS;
 
 /// The flag of a written track. Every other byte means that the track is blank.
 const WRITTEN: u8 = 1;

@@ -1,11 +1,9 @@
 ghost use mathlib.Core.Path.{_≡_};
-ghost use mathlib.Core.List.{List};
-ghost use Prim.Native.Nat.{ℕ, _+_, _-_, _<_, _≤_, min};
-ghost use lib.ListN.{take, drop};
+ghost use Prim.Native.Nat.{_+_, _-_, _<_, _≤_, min};
+ghost use lib.ListN.{length};
 ghost use Rattle.std.specs.Options.{Cases as BySome};
-ghost use Rattle.tape.specs.Tape.{Track};
-ghost use Rattle.tape.specs.Windows.{windowTracks};
-
+ghost use Rattle.tape.specs.Tape.{storing, stored, blanking, blanked};
+ghost use Rattle.tape.specs.Windows.{shown, storedBelow, blankedBelow, WindowRest, restOf};
 use crate::fault::TapeFault;
 use crate::traits::Playable;
 use crate::traits::Recordable;
@@ -19,11 +17,11 @@ pub struct Window<T> {
     pub count: usize,
 }
 
-/// Where a track of a window lies on a tape of `length` tracks below, if the window has it.
-fn place(length: usize, first: usize, count: usize, track: usize) -> Option<usize>
-    ensures { λ r. ⌜ BySome r (min count (length - first) ≤ track) (λ p. (p ≡ first + track) × (track < count) × (p < length)) ⌝ }
+/// Where a track of a window lies on a tape of so many tracks below, if the window has it.
+fn place(tracks: usize, first: usize, count: usize, track: usize) -> Option<usize>
+    ensures { λ r. ⌜ BySome r (min count (tracks - first) ≤ track) (λ p. (p ≡ first + track) × (track < count) × (p < tracks)) ⌝ }
 {
-    if track < count && first < length && track < length - first {
+    if track < count && first < tracks && track < tracks - first {
         Some(first + track)
     } else {
         None
@@ -31,18 +29,21 @@ fn place(length: usize, first: usize, count: usize, track: usize) -> Option<usiz
 }
 
 pub impl<T: Playable> Playable for Window<T> as WindowPlayable {
-    ghost tracks = { λ s. windowTracks (s .first) (s .count) (T·Playable .tracks (s .below)) };
+    ghost tracks = { shown (T·Playable .tracks) };
 
     fn length(&self) -> usize {
-        self.below.length().saturating_sub(self.first).min(self.count)
+        self.below
+            .length()
+            .saturating_sub(self.first)
+            .min(self.count)
     }
 
     fn fetch(&self, track: usize, buffer: &mut [u16]) -> Result<(), TapeFault> {
-        let length = self.below.length();
+        let tracks = self.below.length();
         if buffer.len() != WORDS {
             return Err(TapeFault::WrongBuffer);
         }
-        match place(length, self.first, self.count, track) {
+        match place(tracks, self.first, self.count, track) {
             Some(p) => self.below.fetch(p, buffer),
             None => Err(TapeFault::NoTrack),
         }
@@ -50,12 +51,16 @@ pub impl<T: Playable> Playable for Window<T> as WindowPlayable {
 }
 
 pub impl<T: Recordable> Recordable for Window<T> as WindowRecordable {
-    // the tape below but for its tracks, the two numbers, and the tracks before the window and after it
-    ghost Rest = { T·Recordable .Rest × (ℕ × (ℕ × (List Track × List Track))) };
+    ghost Rest = { WindowRest (T·Recordable .Rest) };
 
-    ghost rest = { λ s. (T·Recordable .rest (s .below), (s .first, (s .count, (take (s .first) (T·Playable .tracks (s .below)), drop (s .first + s .count) (T·Playable .tracks (s .below)))))) };
+    ghost rest = { restOf (T·Recordable .rest) (T·Playable .tracks) };
 
-    fn store(&mut self, track: usize, buffer: &[u16]) -> Result<(), TapeFault> {
+    fn store(&mut self, track: usize, buffer: &[u16]) -> Result<(), TapeFault>
+        ensures answer { λ r. ⌜ r ≡ storing (length (shown (T·Playable .tracks) (now (self .entry)))) track (now (buffer .entry)) ⌝ }
+        ensures kept { λ _. ⌜ restOf (T·Recordable .rest) (T·Playable .tracks) (now (self .exit)) ≡ restOf (T·Recordable .rest) (T·Playable .tracks) (now (self .entry)) ⌝ }
+        ensures tape { λ _. ⌜ shown (T·Playable .tracks) (now (self .exit)) ≡ stored (shown (T·Playable .tracks) (now (self .entry))) track (now (buffer .entry)) ⌝ }
+        ensures below { λ _. ⌜ T·Playable .tracks (now (self .exit) .below) ≡ storedBelow (T·Playable .tracks) (now (self .entry)) track (now (buffer .entry)) ⌝ }
+    {
         if buffer.len() != WORDS {
             return Err(TapeFault::WrongBuffer);
         }
@@ -65,7 +70,12 @@ pub impl<T: Recordable> Recordable for Window<T> as WindowRecordable {
         }
     }
 
-    fn blank(&mut self, track: usize) -> Result<(), TapeFault> {
+    fn blank(&mut self, track: usize) -> Result<(), TapeFault>
+        ensures answer { λ r. ⌜ r ≡ blanking (length (shown (T·Playable .tracks) (now (self .entry)))) track ⌝ }
+        ensures kept { λ _. ⌜ restOf (T·Recordable .rest) (T·Playable .tracks) (now (self .exit)) ≡ restOf (T·Recordable .rest) (T·Playable .tracks) (now (self .entry)) ⌝ }
+        ensures tape { λ _. ⌜ shown (T·Playable .tracks) (now (self .exit)) ≡ blanked (shown (T·Playable .tracks) (now (self .entry))) track ⌝ }
+        ensures below { λ _. ⌜ T·Playable .tracks (now (self .exit) .below) ≡ blankedBelow (T·Playable .tracks) (now (self .entry)) track ⌝ }
+    {
         match place(self.below.length(), self.first, self.count, track) {
             Some(p) => self.below.blank(p),
             None => Err(TapeFault::NoTrack),

@@ -1,23 +1,24 @@
 ghost use mathlib.Core.Path.{_≡_};
 ghost use mathlib.Core.List.{map};
-ghost use Prim.Native.Nat.{_*_, _+_, _/_, _<_, _≤_};
+ghost use Prim.Native.Nat.{_/_};
 ghost use lib.ListN.{length};
 ghost use base.Fml.{GName};
 ghost use denote.Ref.{name, now as behind};
 ghost use Rattle.tape.specs.Tape.{fetched, delivered, storing, stored, blanking, blanked};
 ghost use Rattle.tape.specs.Images.{capped, wordTracks, wordStored, wordBlanked};
-
 use crate::checks::reach;
 use crate::checks::storable;
 use crate::fault::TapeFault;
 use crate::traits::Playable;
 use crate::traits::Recordable;
+use crate::traits::WORD_LIMIT;
+use crate::traits::WORDS;
 
 /// How many numbers a track takes: the flag and the words.
-pub const STRIDE: usize = 4609;
+pub const STRIDE: usize = 1 + WORDS;
 
 /// The flag of a written track. Every other number means that the track is blank.
-pub const WRITTEN: u16 = 1;
+const WRITTEN: u16 = 1;
 
 /// A tape in memory, a 16-bit number to a word. Numbers after the last whole track stay as they are.
 #[derive(Drop)]
@@ -29,10 +30,10 @@ pub struct WordImage<'a> {
 fn cap(word: u16) -> u16
     ensures { λ r. ⌜ r ≡ capped word ⌝ }
 {
-    if word < 1024 { word } else { 0 }
+    if word < WORD_LIMIT { word } else { 0 }
 }
 
-/// Copies the numbers as words.
+/// Copies the numbers as words: each counts as `cap` says.
 fn copy_words(numbers: &[u16], buffer: &mut [u16])
     requires { ⌜ length (now buffer) ≡ length (now numbers) ⌝ }
     ensures { λ _. ⌜ now (buffer .exit) ≡ map capped (now (numbers .entry)) ⌝ }
@@ -42,8 +43,8 @@ fn copy_words(numbers: &[u16], buffer: &mut [u16])
     }
 }
 
-/// Copies the words of a track of a word image.
-pub fn fetch_words(memory: &[u16], track: usize, buffer: &mut [u16]) -> Result<(), TapeFault>
+/// Copies the words of a track of a word image, of either kind.
+pub(crate) fn fetch_words(memory: &[u16], track: usize, buffer: &mut [u16]) -> Result<(), TapeFault>
     ensures answer { λ r. ⌜ r ≡ fetched (wordTracks (now (memory .entry))) track (length (now (buffer .entry))) ⌝ }
     ensures words { λ _. ⌜ now (buffer .exit) ≡ delivered (wordTracks (now (memory .entry))) track (now (buffer .entry)) ⌝ }
 {

@@ -1,13 +1,13 @@
 use channel::line::LineCode;
 use channel::plain::Plain;
+use channel::plain::PlainLine;
 use channel::sheet;
 use channel::sheet::CheckedSheet;
+use channel::sheet::CheckedSheetLine;
 use channel::sheet::RawSheet;
 use channel::state::State;
-use std::io;
-use channel::plain::PlainLine;
-use channel::sheet::CheckedSheetLine;
 use channel::state::StateDebug;
+use std::io;
 
 /// How many of the 512 bytes and states come back from their words.
 fn come_back<C: LineCode>(code: &C) -> usize {
@@ -75,10 +75,25 @@ pub fn run(rt: &impl Print) -> io::Result<()> {
     let mut sheet = CheckedSheet::new();
     show(rt, "new sheet", &sheet)?;
     checked(rt, "no numbers", &[], &mut sheet)?;
-    checked(rt, "a word for each byte and state", &sheet_of(515, false), &mut sheet)?;
-    checked(rt, "one word for both states", &sheet_of(3, true), &mut sheet)?;
+    checked(
+        rt,
+        "a word for each byte and state",
+        &sheet_of(515, false),
+        &mut sheet,
+    )?;
+    checked(
+        rt,
+        "one word for both states",
+        &sheet_of(3, true),
+        &mut sheet,
+    )?;
     checked(rt, "words under two bytes", &sheet_of(4, false), &mut sheet)?;
     let mut wide = sheet_of(4, false);
     wide[511] = u32::MAX;
-    checked(rt, "a number above 2047, and words under two bytes", &wide, &mut sheet)
+    checked(
+        rt,
+        "a number above 2047, and words under two bytes",
+        &wide,
+        &mut sheet,
+    )
 }

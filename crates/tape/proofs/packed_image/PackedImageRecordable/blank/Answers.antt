@@ -8,8 +8,9 @@ pub returns : need.returns
 returns c =
     let m = c .args .self .now .memory .now in
     let e = c .blank-packed .ensures in
-    record
-    { answer = e .answer ∙ rw (length-image 5761 (lit< tt) unpacked m)
-    ; kept = refl
-    ; tape = ap packedTracks (e .memory) ∙ image-blanked 5761 (lit< tt) unpacked m (c .args .track)
-    ; memory = e .memory }
+    record {
+      answer = e .answer ∙ rw (length-image 5761 (lit< tt) unpacked m);
+      kept = refl;
+      tape = ap packedTracks (e .memory) ∙ image-blanked 5761 (lit< tt) unpacked m (c .args .track);
+      memory = e .memory;
+    }

@@ -9,8 +9,9 @@ pub returns : need.returns
 returns c =
     let m = c .args .self .now .memory .now in
     let e = c .store-packed .ensures in
-    record
-    { answer = e .answer ∙ rw (length-image 5761 (lit< tt) unpacked m)
-    ; kept = refl
-    ; tape = ap packedTracks (e .memory) ∙ packed-stored m (c .args .track) (c .args .buffer .now)
-    ; memory = e .memory }
+    record {
+      answer = e .answer ∙ rw (length-image 5761 (lit< tt) unpacked m);
+      kept = refl;
+      tape = ap packedTracks (e .memory) ∙ packed-stored m (c .args .track) (c .args .buffer .now);
+      memory = e .memory;
+    }

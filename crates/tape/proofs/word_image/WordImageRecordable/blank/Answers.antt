@@ -9,8 +9,9 @@ pub returns : need.returns
 returns c =
     let m = c .args .self .now .memory .now in
     let e = c .blank-words .ensures in
-    record
-    { answer = e .answer ∙ rw (length-image 4609 (lit< tt) (map capped) m)
-    ; kept = refl
-    ; tape = ap wordTracks (e .memory) ∙ image-blanked 4609 (lit< tt) (map capped) m (c .args .track)
-    ; memory = e .memory }
+    record {
+      answer = e .answer ∙ rw (length-image 4609 (lit< tt) (map capped) m);
+      kept = refl;
+      tape = ap wordTracks (e .memory) ∙ image-blanked 4609 (lit< tt) (map capped) m (c .args .track);
+      memory = e .memory;
+    }

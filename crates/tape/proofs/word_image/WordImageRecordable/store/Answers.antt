@@ -10,8 +10,9 @@ pub returns : need.returns
 returns c =
     let m = c .args .self .now .memory .now in
     let e = c .store-words .ensures in
-    record
-    { answer = e .answer ∙ rw (length-image 4609 (lit< tt) (map capped) m)
-    ; kept = refl
-    ; tape = ap wordTracks (e .memory) ∙ word-stored m (c .args .track) (c .args .buffer .now)
-    ; memory = e .memory }
+    record {
+      answer = e .answer ∙ rw (length-image 4609 (lit< tt) (map capped) m);
+      kept = refl;
+      tape = ap wordTracks (e .memory) ∙ word-stored m (c .args .track) (c .args .buffer .now);
+      memory = e .memory;
+    }
