@@ -24,7 +24,15 @@ one43 = replicate 43 0 ++ (1 ∷ 0 ∷ 0 ∷ [])
 
 abbrev pub examples : List Example
 examples =
-    (alpha 8 ∷ [], 29 ∷ [])  -- the field's polynomial
+    -- α^8
+    (alpha 8 ∷ [], 29 ∷ [])
+    -- the bytes that tap 3 and start 1 give
+    ∷ (randomized 3 1 (0 ∷ 0 ∷ []), 1 ∷ 128 ∷ [])
+    -- the places of D_0 and D_5755: sign (0 is PLUS, 1 is MINUS), block, serial
+    ∷ (numbers (placeD 0), 1 ∷ 76 ∷ 2 ∷ [])
+    ∷ (numbers (placeD 5755), 0 ∷ 111 ∷ 21 ∷ [])
+    -- the check bytes of the C3 word with 1 at track 43 and 0 at the tracks before
+    ∷ (byteAt 44 (filling 2 c3Checks one43) ∷ byteAt 45 (filling 2 c3Checks one43) ∷ [], 3 ∷ 2 ∷ [])
     ∷ []
 
 abbrev pub Settled : Type 0

@@ -4,11 +4,11 @@ ghost use Prim.Native.Nat.{ℕ, _+_, _*_, _/_, _%_, _<_, _≤_};
 ghost use lib.Bits.{bitXor};
 ghost use lib.Dec.{eqb};
 ghost use lib.ListN.{getD, length};
-ghost use Rattle.layout.specs.Randomizer.{step, steps};
 ghost use Rattle.layout.specs.Words.{frameByte};
 ghost use Rattle.writing.specs.Rows.{padAt, dataIndex, plainAt, c3Filled, HasRows};
 
 use crate::array::ROW;
+use layout::register::next_byte;
 use reed_solomon::interleaved;
 
 /// How many bytes a group has, and each of its 22 sub-groups.
@@ -18,28 +18,6 @@ pub const SUB_GROUP: usize = 5756;
 /// The places of the check bytes in a C3 word.
 const C3_CHECKS: [usize; 2] = [45, 44];
 
-/// One step of the randomizer's register.
-fn step_register(tap: u16, register: u16) -> u16
-    requires { ⌜ register < 32768 ⌝ }
-    ensures is { λ r. ⌜ r ≡ step tap register ⌝ }
-    ensures below { λ r. ⌜ r < 32768 ⌝ }
-{
-    register / 2 + 16384 * ((register & tap).count_ones() % 2) as u16
-}
-
-/// Eight steps: the register after one byte.
-fn step_byte(tap: u16, register: u16) -> u16
-    requires { ⌜ register < 32768 ⌝ }
-    ensures is { λ r. ⌜ r ≡ steps tap 8 register ⌝ }
-    ensures below { λ r. ⌜ r < 32768 ⌝ }
-{
-    let mut now = register;
-    for k in 0..8u8 {
-        now = step_register(tap, now);
-    }
-    now
-}
-
 /// The bytes that are XORed to each sub-group.
 pub(crate) fn make_pad(tap: u16, start: u16, pad: &mut [u8])
     requires { ⌜ start < 32768 ⌝ }
@@ -47,9 +25,9 @@ pub(crate) fn make_pad(tap: u16, start: u16, pad: &mut [u8])
 {
     let mut register = start;
     for d in 0..pad.len() {
-        // The bits that come in at the top are not among the next eight to go out.
-        pad[d] = (register % 256) as u8;
-        register = step_byte(tap, register);
+        let (byte, next) = next_byte(tap, register);
+        pad[d] = byte;
+        register = next;
     }
 }
 

@@ -1,7 +1,7 @@
 use mathlib.Core.Path.{refl}
 use native.Mathlib.Omega.{arith}
 use Rattle.layout.specs.Randomizer.{step}
-use Rattle.writing.proofs.rows.step_register.Needs as need
+use Rattle.layout.proofs.register.step_register.Needs as need
 
 pub returns : need.returns
 unfolding step
