@@ -1,0 +1,4 @@
+pub mod Losses
+pub mod Arrays
+pub mod Faults
+pub mod Outcomes
