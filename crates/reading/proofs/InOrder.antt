@@ -20,10 +20,10 @@ use Rattle.layout.proofs.Placing.{fits}
 use Rattle.layout.proofs.Light.{words-from}
 use Rattle.reading.specs.Arrays.{arrayIn, erasedIn, before, wordsOn, Left, Found}
 
-small : (m n : ℕ) → n < wide m → n < 32
+pub small : (m n : ℕ) → n < wide m → n < 32
 small m n h = cond-both (eqb (m % 2) 0) 32 24 (λ z. n < z → n < 32) (λ e l. omega arith) (λ e l. omega arith) h
 
-which-same : (f g : ℕ → Bool) (n : ℕ) → ((k : ℕ) → k < n → f k ≡ g k) → which f n ≡ which g n
+pub which-same : (f g : ℕ → Bool) (n : ℕ) → ((k : ℕ) → k < n → f k ≡ g k) → which f n ≡ which g n
 unfolding which
 which-same f g zero h = refl
 which-same f g (suc n) h = ap₂ (λ t ps. cond t (n ∷ ps) ps) (h n (omega arith)) (which-same f g n (λ k l. h k (omega arith)))

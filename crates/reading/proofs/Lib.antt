@@ -5,3 +5,5 @@ pub mod InOrder
 pub mod Causes
 pub mod WholeTrack
 pub mod Declines
+pub mod Firsts
+pub mod CrossWords

@@ -1,11 +1,13 @@
 -- Why a reading is declined.
-use mathlib.Core.Bool.{Bool, cond, _&&_}
-use Prim.Native.Nat.{ℕ}
-use lib.Dec.{eqb, ltb}
+use mathlib.Core.Bool.{Bool, cond, _&&_, _||_}
+use Prim.Native.Nat.{ℕ, _*_}
+use lib.Dec.{eqb, leb, ltb}
 use Rattle.std.specs.declared.option.Option.{Option}
 use Rattle.std.specs.declared.option.Option.the-variants.{Some, None}
 use Rattle.std.specs.declared.result.Result.{Result}
 use Rattle.std.specs.declared.result.Result.the-variants.{Ok, Err}
+use Rattle.reading.specs.declared.fault.ReadFault.{ReadFault}
+use Rattle.reading.specs.declared.fault.ReadFault.the-variants.{TrackBuffer, Setting, GroupBuffer, Bench, NoGroup, ThirdLoss, Unchecked}
 use Rattle.reading.specs.declared.fault.TrackFault.{TrackFault}
 use Rattle.reading.specs.declared.fault.TrackFault.the-variants.{NoTrack, Words, Memory}
 
@@ -28,3 +30,27 @@ unless (Some e) new old = old
 -- why reading a track is declined, by the number of its words, the sizes of row and array, and its number
 abbrev pub trackDecline : ℕ → ℕ → ℕ → ℕ → Option TrackFault
 trackDecline words row array t = cond (eqb words 4608) (cond (eqb row 2912 && eqb array 4096) (cond (ltb t 46) None (Some NoTrack)) (Some Memory)) (Some Words)
+
+abbrev pub faultNumber : ReadFault → ℕ
+faultNumber TrackBuffer = 6
+faultNumber Setting = 8
+faultNumber GroupBuffer = 9
+faultNumber Bench = 15
+faultNumber NoGroup = 19
+faultNumber (ThirdLoss track row) = 16
+faultNumber (Unchecked block serial) = 17
+
+-- why reading a group is declined before the bench is used: by the sizes of track buffer, group buffer and bench, and the settings
+abbrev pub sizeDecline : ℕ → ℕ → ℕ → ℕ → ℕ → Option ReadFault
+sizeDecline buffer tap start group bench =
+    cond (eqb buffer 4608) (cond (leb tap 32767 && leb start 32767) (cond (eqb group 126632) (cond (eqb bench 138048) None (Some Bench)) (Some GroupBuffer)) (Some Setting)) (Some TrackBuffer)
+
+-- the same before a track is fetched: no group 0, and none that is not whole on a tape of n tracks
+abbrev pub groupDecline : Option ReadFault → ℕ → ℕ → Option ReadFault
+groupDecline (Some e) g n = Some e
+groupDecline None g n = cond (eqb g 0 || ltb n (46 * g)) (Some NoGroup) None
+
+-- the answer of a call that may be declined before it has one
+abbrev pub judged : {X E : Type 0} → Option E → Result X E → Result X E
+judged None r = r
+judged (Some e) r = Err e

@@ -2,3 +2,4 @@ pub mod Losses
 pub mod Arrays
 pub mod Faults
 pub mod Outcomes
+pub mod Groups

@@ -1,31 +1,15 @@
 ghost use mathlib.Core.Path.{_≡_};
-ghost use mathlib.Core.Bool.{cond};
-ghost use mathlib.Core.List.{_∷_};
 ghost use lib.ListN.{length, drop};
-ghost use Prim.Native.Nat.{ℕ, _+_, _-_, _*_, _<_, _≤_};
+ghost use Prim.Native.Nat.{ℕ, _+_, _*_, _<_, _≤_};
 ghost use Rattle.layout.specs.Counts.{which};
 ghost use Rattle.layout.specs.Words.{wide};
 ghost use Rattle.reading.specs.Arrays.{arrayIn, erasedIn, Corrected, Found};
 ghost use Rattle.reading.specs.Losses.{causeNumber};
+use crate::recovery::put_before;
 use crate::recovery::recover;
 use crate::sheet::Cause;
 use crate::sheet::LossRow;
 use crate::sheet::NO_LOSS;
-
-/// Puts `j` before place `k`, if it is to be kept; gives where the list then begins.
-fn put_before(out: &mut [usize], k: usize, j: usize, kept: bool) -> usize
-    requires { ⌜ 0 < k ⌝ }
-    requires { ⌜ k ≤ length (now out) ⌝ }
-    ensures start { λ r. ⌜ r ≡ cond kept (k - 1) k ⌝ }
-    ensures listed { λ r. ⌜ drop r (now (out .exit)) ≡ cond kept (j ∷ drop k (now (out .entry))) (drop k (now (out .entry))) ⌝ }
-{
-    if kept {
-        out[k - 1] = j;
-        k - 1
-    } else {
-        k
-    }
-}
 
 /// The lost places of C2 word (m, n), in the end of `out` from the answer on.
 fn erasures(lost: &[bool], m: usize, n: usize, out: &mut [usize]) -> usize

@@ -5,8 +5,12 @@
 
 mod c1;
 mod c2;
+mod c3;
 mod decoding;
 pub mod fault;
+mod places;
+mod randomizer;
 mod recovery;
+pub mod group;
 pub mod sheet;
 pub mod track;

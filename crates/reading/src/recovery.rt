@@ -1,6 +1,8 @@
 ghost use mathlib.Core.Path.{_≡_};
-ghost use lib.ListN.{length};
-ghost use Prim.Native.Nat.{ℕ, _<_, _≤_};
+ghost use mathlib.Core.Bool.{cond};
+ghost use mathlib.Core.List.{_∷_};
+ghost use lib.ListN.{length, drop};
+ghost use Prim.Native.Nat.{ℕ, _-_, _<_, _≤_};
 ghost use Rattle.reed_solomon.specs.Interleaves.{Reaches};
 ghost use Rattle.reed_solomon.specs.Words.{Places};
 ghost use Rattle.reading.specs.Arrays.{Recovered};
@@ -28,4 +30,19 @@ pub(crate) fn recover(
         return checks_interleaved(memory, start, stride, n, r);
     }
     fill_interleaved(memory, start, stride, n, lost, r)
+}
+
+/// Puts `j` before place `k`, if it is to be kept; gives where the list then begins.
+pub(crate) fn put_before(out: &mut [usize], k: usize, j: usize, kept: bool) -> usize
+    requires { ⌜ 0 < k ⌝ }
+    requires { ⌜ k ≤ length (now out) ⌝ }
+    ensures start { λ r. ⌜ r ≡ cond kept (k - 1) k ⌝ }
+    ensures listed { λ r. ⌜ drop r (now (out .exit)) ≡ cond kept (j ∷ drop k (now (out .entry))) (drop k (now (out .entry))) ⌝ }
+{
+    if kept {
+        out[k - 1] = j;
+        k - 1
+    } else {
+        k
+    }
 }

@@ -1,5 +1,6 @@
 ghost use mathlib.Core.Path.{_≡_};
 ghost use mathlib.Core.Bool.{cond};
+ghost use Prim.Native.Nat.{_<_};
 ghost use lib.Dec.{ltb};
 ghost use lib.ListN.{getD, set, replicate};
 ghost use Rattle.std.specs.declared.option.Option.the-variants.{Some, None};
@@ -88,5 +89,13 @@ impl LossSheet {
         if t < TRACKS {
             write_row(&mut self.rows[t], finding);
         }
+    }
+
+    /// Whether track `t` is lost.
+    pub(crate) fn is_lost(&self, t: usize) -> bool
+        requires { ⌜ t < 46 ⌝ }
+        ensures { λ r. ⌜ r ≡ isLoss (getD (now (self .entry) .rows) t noLoss .cause) ⌝ }
+    {
+        self.rows[t].cause.is_loss()
     }
 }

@@ -5,7 +5,6 @@ ghost use lib.ListN.{length, getD, replicate};
 ghost use Prim.Native.Nat.{ℕ, _+_, _/_, _<_};
 ghost use Rattle.layout.specs.Group.{address};
 ghost use Rattle.layout.specs.Line.{codeOf};
-ghost use Rattle.layout.specs.Placing.{blockAt, serialAt};
 ghost use Rattle.layout.specs.Reading.{reading};
 ghost use Rattle.layout.specs.Words.{row as rowOf, frameByte};
 ghost use Rattle.reading.specs.Arrays.{at, arrayIn};
@@ -16,6 +15,8 @@ use crate::c1;
 use crate::c2;
 use crate::decoding;
 use crate::fault::TrackFault;
+use crate::places::block_at;
+use crate::places::serial_at;
 use crate::sheet::Cause;
 use crate::sheet::LossRow;
 use crate::sheet::NO_LOSS;
@@ -30,27 +31,6 @@ pub const ARRAY: usize = 4096;
 
 /// The bytes of a row, those at the occupied places of an array.
 pub const ROW: usize = 2912;
-
-/// The block of number `q` of a row.
-fn block_at(q: usize) -> usize
-    requires { ⌜ q < 2912 ⌝ }
-    ensures is { λ r. ⌜ r ≡ blockAt q ⌝ }
-    ensures below { λ r. ⌜ r < 128 ⌝ }
-{
-    let i = q / 2;
-    i % 52 + 75 * (i % 2) + i / 832
-}
-
-/// The serial of number `q` of a row.
-fn serial_at(q: usize) -> usize
-    requires { ⌜ q < 2912 ⌝ }
-    ensures is { λ r. ⌜ r ≡ serialAt q ⌝ }
-    ensures below { λ r. ⌜ r < 32 ⌝ }
-{
-    let i = q / 2;
-    let u = 1 - q % 2;
-    2 * (u + i / 52) - i / 52 % 2 - 32 * (i / 832)
-}
 
 /// Takes the bytes at the occupied places.
 fn take_row(array: &[u8], out: &mut [u8])

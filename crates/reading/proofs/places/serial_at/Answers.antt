@@ -2,7 +2,7 @@ use mathlib.Core.Path.{refl}
 use native.Mathlib.Omega.{arith}
 use Rattle.layout.specs.Placing.{serialAt, serial}
 use Rattle.layout.proofs.Placing.{fits}
-use Rattle.reading.proofs.track.serial_at.Needs as need
+use Rattle.reading.proofs.places.serial_at.Needs as need
 
 pub returns : need.returns
 unfolding serialAt serial

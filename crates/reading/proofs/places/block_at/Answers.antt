@@ -1,7 +1,7 @@
 use mathlib.Core.Path.{refl}
 use native.Mathlib.Omega.{arith}
 use Rattle.layout.specs.Placing.{blockAt, block}
-use Rattle.reading.proofs.track.block_at.Needs as need
+use Rattle.reading.proofs.places.block_at.Needs as need
 
 pub returns : need.returns
 unfolding blockAt block

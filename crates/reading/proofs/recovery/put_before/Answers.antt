@@ -4,7 +4,7 @@ use Prim.Native.Nat.{_-_}
 use lib.ListN.{drop}
 use Rattle.std.proofs.shelf.Tests.{cond-true}
 use Rattle.reading.proofs.Lists.{put-kept}
-use Rattle.reading.proofs.c2.put_before.Needs as need
+use Rattle.reading.proofs.recovery.put_before.Needs as need
 
 pub returns-then-kept : need.returns-then-kept
 returns-then-kept c = record {
