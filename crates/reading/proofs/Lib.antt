@@ -7,3 +7,4 @@ pub mod WholeTrack
 pub mod Declines
 pub mod Firsts
 pub mod CrossWords
+pub mod Masks
