@@ -50,6 +50,10 @@ abbrev pub groupDecline : Option ReadFault → ℕ → ℕ → Option ReadFault
 groupDecline (Some e) g n = Some e
 groupDecline None g n = cond (eqb g 0 || ltb n (46 * g)) (Some NoGroup) None
 
+-- the same by whether the group is on the tape
+abbrev pub absent : Bool → Option ReadFault
+absent present = cond present None (Some NoGroup)
+
 -- the answer of a call that may be declined before it has one
 abbrev pub judged : {X E : Type 0} → Option E → Result X E → Result X E
 judged None r = r

@@ -84,14 +84,20 @@ groupIn tap start rows = joined (λ f. randomized tap start (listed (λ d. getD 
 
 -- ---- the whole group
 
--- the outcomes of the tracks of group g on a tape
-abbrev pub outcomes : Code → ℕ → List Track → ℕ → Outcome
-outcomes c g tracks k = outcome c (address g k) (getD tracks (46 * (g - 1) + k) None)
+-- the tracks of group g on a tape
+abbrev pub tracksOf : ℕ → List Track → ℕ → Track
+tracksOf g tracks k = getD tracks (46 * (g - 1) + k) None
 
--- the rows and the loss sheet hold the outcomes
-pub record Holds (o : ℕ → Outcome) (rows : List ℕ) (sheet : List LossRow) : Type 0 where
-  pub bytes : (k q : ℕ) → k < 46 → q < 2912 → getD rows (q + 2912 * k) 0 ≡ numbered q (o k)
-  pub findings : (k : ℕ) → k < 46 → getD sheet k noLoss ≡ lossRow (o k)
+-- their outcomes
+abbrev pub outcomes : Code → ℕ → List Track → ℕ → Outcome
+outcomes c g tracks k = outcome c (address g k) (tracksOf g tracks k)
+
+-- the rows and the loss sheet hold the outcomes of the first t tracks
+pub record Holds (o : ℕ → Outcome) (rows : List ℕ) (sheet : List LossRow) (t : ℕ) : Type 0 where
+  pub bytes : (k q : ℕ) → k < t → q < 2912 → getD rows (q + 2912 * k) 0 ≡ numbered q (o k)
+  pub zeros : (p : ℕ) → 2912 * t ≤ p → getD rows p 0 ≡ 0
+  pub size : length sheet ≡ 46
+  pub findings : (k : ℕ) → k < t → getD sheet k noLoss ≡ lossRow (o k)
 
 -- what was found in the rows and the loss sheet
 abbrev pub foundBytes : ℕ → ℕ → List ℕ → List ℕ → Option ℕ → Found

@@ -9,7 +9,7 @@ mod c3;
 mod decoding;
 pub mod fault;
 mod places;
-mod randomizer;
+pub mod randomizer;
 mod recovery;
 pub mod group;
 pub mod sheet;

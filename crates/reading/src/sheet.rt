@@ -91,6 +91,14 @@ impl LossSheet {
         }
     }
 
+    /// The row of a track that the sheet has.
+    pub(crate) fn finding(&self, t: usize) -> LossRow
+        requires { ⌜ t < 46 ⌝ }
+        ensures { λ r. ⌜ r ≡ getD (now (self .entry) .rows) t noLoss ⌝ }
+    {
+        self.rows[t]
+    }
+
     /// Whether track `t` is lost.
     pub(crate) fn is_lost(&self, t: usize) -> bool
         requires { ⌜ t < 46 ⌝ }
