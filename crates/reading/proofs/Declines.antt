@@ -1,48 +1,23 @@
--- Calls that are declined.
-use mathlib.Core.Path.{_≡_, refl, sym, ap, _∙_}
-use mathlib.Core.Bool.{true, false, cond, _&&_}
-use Prim.Native.Nat.{ℕ, _≤_, _<_}
-use lib.Dec.{eqb, ltb}
+-- Calls that are declined by their sizes.
+use mathlib.Core.Path.{_≡_, refl, sym, ap}
+use Prim.Native.Nat.{ℕ}
+use native.Mathlib.Omega.{arith}
 use Rattle.std.specs.declared.option.Option.{Option}
 use Rattle.std.specs.declared.option.Option.the-variants.{Some, None}
+use Rattle.std.specs.declared.result.Result.{Result}
 use Rattle.std.specs.declared.result.Result.the-variants.{Ok, Err}
-use Rattle.std.proofs.shelf.Tests.{cond-true, cond-false, eq-eqb, ne-eqb, lt-ltb, le-ltb, and-from, and-left, and-right}
-use Rattle.reading.specs.declared.fault.TrackFault.{TrackFault}
-use Rattle.reading.specs.declared.fault.TrackFault.the-variants.{NoTrack, Words, Memory}
-use Rattle.reading.specs.Faults.{answered, unless, trackDecline}
+use Rattle.reading.specs.declared.fault.ReadFault.{ReadFault}
+use Rattle.reading.specs.Faults.{answered, unless, judged, groupDecline}
 
-pub declined : {X E : Type 0} (d : Option E) (e : E) (x : X) → d ≡ Some e → Err e ≡ answered d x
-declined d e x h = sym (ap (λ z. answered z x) h)
-
-pub carried : {X E : Type 0} (d : Option E) (x : X) → d ≡ None → Ok x ≡ answered d x
-carried d x h = sym (ap (λ z. answered z x) h)
+pub declined-by : {X E : Type 0} (d : Option E) (e : E) (x : X) → Err e ≡ answered d x → d ≡ Some e
+declined-by None e x h = let z : _≡_ {A = ℕ} 0 1 = cc in absurd (omega arith)
+declined-by (Some y) e x h = cc
 
 pub left : {X E : Type 0} (d : Option E) (e : E) (new old : X) → d ≡ Some e → old ≡ unless d new old
 left d e new old h = sym (ap (λ z. unless z new old) h)
 
-pub changed : {X E : Type 0} (d : Option E) (new old : X) → d ≡ None → new ≡ unless d new old
-changed d new old h = sym (ap (λ z. unless z new old) h)
+pub group-left : {X : Type 0} (d : Option ReadFault) (e : ReadFault) (g n : ℕ) (new old : X) → d ≡ Some e → old ≡ unless (groupDecline d g n) new old
+group-left d e g n new old h = sym (ap (λ z. unless (groupDecline z g n) new old) h)
 
-module _ (w r a t : ℕ) where
-  pub no-words : (w ≡ 4608 → ⊥) → trackDecline w r a t ≡ Some Words
-  no-words h = cond-false (eqb w 4608) _ _ (ne-eqb w 4608 h)
-
-  module _ (words : w ≡ 4608) where
-    past-words : trackDecline w r a t ≡ cond (eqb r 2912 && eqb a 4096) (cond (ltb t 46) None (Some NoTrack)) (Some Memory)
-    past-words = cond-true (eqb w 4608) _ _ (eq-eqb w 4608 words)
-
-    pub no-row : (r ≡ 2912 → ⊥) → trackDecline w r a t ≡ Some Memory
-    no-row h = past-words ∙ cond-false (eqb r 2912 && eqb a 4096) _ _ (and-left (eqb r 2912) (eqb a 4096) (ne-eqb r 2912 h))
-
-    pub no-array : (a ≡ 4096 → ⊥) → trackDecline w r a t ≡ Some Memory
-    no-array h = past-words ∙ cond-false (eqb r 2912 && eqb a 4096) _ _ (and-right (eqb r 2912) (eqb a 4096) (ne-eqb a 4096 h))
-
-    module _ (row : r ≡ 2912) (array : a ≡ 4096) where
-      past-memory : trackDecline w r a t ≡ cond (ltb t 46) None (Some NoTrack)
-      past-memory = past-words ∙ cond-true (eqb r 2912 && eqb a 4096) _ _ (and-from (eqb r 2912) (eqb a 4096) (eq-eqb r 2912 row) (eq-eqb a 4096 array))
-
-      pub no-track : 46 ≤ t → trackDecline w r a t ≡ Some NoTrack
-      no-track h = past-memory ∙ cond-false (ltb t 46) _ _ (le-ltb t 46 h)
-
-      pub track-goes : t < 46 → trackDecline w r a t ≡ None
-      track-goes h = past-memory ∙ cond-true (ltb t 46) _ _ (lt-ltb t 46 h)
+pub group-declined : {X : Type 0} (d : Option ReadFault) (e : ReadFault) (g n : ℕ) (r : Result X ReadFault) → d ≡ Some e → Err e ≡ judged (groupDecline d g n) r
+group-declined d e g n r h = sym (ap (λ z. judged (groupDecline z g n) r) h)

@@ -8,3 +8,4 @@ pub mod Declines
 pub mod Firsts
 pub mod CrossWords
 pub mod Masks
+pub mod WholeGroup

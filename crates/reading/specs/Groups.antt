@@ -19,7 +19,7 @@ use Rattle.layout.specs.Randomizer.{randomized}
 use Rattle.layout.specs.Placing.{numberAt, isData}
 use Rattle.layout.specs.Line.{Code}
 use Rattle.layout.specs.Reading.{filling, byteAt, Outcome}
-use Rattle.layout.specs.Group.{address, numberD, signD, joined, firstFrom, isNone, Found, whole, third, unchecked, outcome, numbered}
+use Rattle.layout.specs.Group.{address, numberD, signD, joined, firstFrom, isNone, Found, whole, third, unchecked, outcome, numbered, groupRead}
 use Rattle.reading.specs.declared.sheet.LossRow.{LossRow}
 use Rattle.reading.specs.declared.fault.ReadFault.{ReadFault}
 use Rattle.reading.specs.declared.fault.ReadFault.the-variants.{ThirdLoss, Unchecked}
@@ -91,6 +91,14 @@ tracksOf g tracks k = getD tracks (46 * (g - 1) + k) None
 -- their outcomes
 abbrev pub outcomes : Code → ℕ → List Track → ℕ → Outcome
 outcomes c g tracks k = outcome c (address g k) (tracksOf g tracks k)
+
+-- the loss sheet of group g
+abbrev pub findings : Code → ℕ → List Track → List LossRow
+findings c g tracks = sheetOf (outcomes c g tracks)
+
+-- what group g reads as
+abbrev pub found : Code → ℕ → ℕ → ℕ → List Track → Found
+found c tap start g tracks = groupRead c tap start g (tracksOf g tracks)
 
 -- the rows and the loss sheet hold the outcomes of the first t tracks
 pub record Holds (o : ℕ → Outcome) (rows : List ℕ) (sheet : List LossRow) (t : ℕ) : Type 0 where

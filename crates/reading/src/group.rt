@@ -3,10 +3,9 @@ ghost use lib.ListN.{length, getD, replicate};
 ghost use Prim.Native.Nat.{ℕ, _+_, _-_, _*_, _<_, _≤_};
 ghost use Rattle.std.specs.Vec.{made};
 ghost use Rattle.std.specs.declared.option.Option.the-variants.{None};
-ghost use Rattle.layout.specs.Group.{groupRead};
 ghost use Rattle.layout.specs.Line.{codeOf};
 ghost use Rattle.reading.specs.Faults.{answered, unless, judged, sizeDecline, groupDecline, absent};
-ghost use Rattle.reading.specs.Groups.{sheetOf, outcomes, tracksOf, Holds, foundIn, answerOf, groupAfter};
+ghost use Rattle.reading.specs.Groups.{findings, outcomes, found, Holds, foundIn, answerOf, groupAfter};
 ghost use Rattle.reading.specs.Losses.{lossRow, rowAfter};
 use crate::c3::fill_words;
 use crate::c3::lost_tracks;
@@ -129,9 +128,9 @@ fn read_present<T: Playable, C: LineCode>(
     requires bench { ⌜ length (now bench) ≡ 138048 ⌝ }
     requires group { ⌜ length (now group) ≡ 126632 ⌝ }
     requires start { ⌜ settings .start < 32768 ⌝ }
-    ensures answer { λ r. ⌜ r ≡ answerOf (sheetOf (outcomes (codeOf (C·LineCode .encode (now (code .entry))) (C·LineCode .decode (now (code .entry)))) number (T·Playable .tracks (now (tape .entry))))) (groupRead (codeOf (C·LineCode .encode (now (code .entry))) (C·LineCode .decode (now (code .entry)))) (settings .tap) (settings .start) number (tracksOf number (T·Playable .tracks (now (tape .entry))))) ⌝ }
-    ensures bytes { λ _. ⌜ now (group .exit) ≡ groupAfter (groupRead (codeOf (C·LineCode .encode (now (code .entry))) (C·LineCode .decode (now (code .entry)))) (settings .tap) (settings .start) number (tracksOf number (T·Playable .tracks (now (tape .entry))))) (now (group .entry)) ⌝ }
-    ensures findings { λ _. ⌜ now (sheet .exit) .rows ≡ sheetOf (outcomes (codeOf (C·LineCode .encode (now (code .entry))) (C·LineCode .decode (now (code .entry)))) number (T·Playable .tracks (now (tape .entry)))) ⌝ }
+    ensures answer { λ r. ⌜ r ≡ answerOf (findings (codeOf (C·LineCode .encode (now (code .entry))) (C·LineCode .decode (now (code .entry)))) number (T·Playable .tracks (now (tape .entry)))) (found (codeOf (C·LineCode .encode (now (code .entry))) (C·LineCode .decode (now (code .entry)))) (settings .tap) (settings .start) number (T·Playable .tracks (now (tape .entry)))) ⌝ }
+    ensures bytes { λ _. ⌜ now (group .exit) ≡ groupAfter (found (codeOf (C·LineCode .encode (now (code .entry))) (C·LineCode .decode (now (code .entry)))) (settings .tap) (settings .start) number (T·Playable .tracks (now (tape .entry)))) (now (group .entry)) ⌝ }
+    ensures findings { λ _. ⌜ now (sheet .exit) .rows ≡ findings (codeOf (C·LineCode .encode (now (code .entry))) (C·LineCode .decode (now (code .entry)))) number (T·Playable .tracks (now (tape .entry))) ⌝ }
 {
     bench.fill(0);
     let (rows, array) = bench.split_at_mut(ROWS);
@@ -182,9 +181,9 @@ pub fn read_group<T: Playable, C: LineCode>(
     group: &mut [u8],
     sheet: &mut LossSheet,
 ) -> Result<(), ReadFault>
-    ensures answer { λ r. ⌜ r ≡ judged (groupDecline (sizeDecline (length (now (buffer .entry))) (settings .tap) (settings .start) (length (now (group .entry))) (length (now (bench .entry)))) number (length (T·Playable .tracks (now (tape .entry))))) (answerOf (sheetOf (outcomes (codeOf (C·LineCode .encode (now (code .entry))) (C·LineCode .decode (now (code .entry)))) number (T·Playable .tracks (now (tape .entry))))) (groupRead (codeOf (C·LineCode .encode (now (code .entry))) (C·LineCode .decode (now (code .entry)))) (settings .tap) (settings .start) number (tracksOf number (T·Playable .tracks (now (tape .entry)))))) ⌝ }
-    ensures bytes { λ _. ⌜ now (group .exit) ≡ unless (groupDecline (sizeDecline (length (now (buffer .entry))) (settings .tap) (settings .start) (length (now (group .entry))) (length (now (bench .entry)))) number (length (T·Playable .tracks (now (tape .entry))))) (groupAfter (groupRead (codeOf (C·LineCode .encode (now (code .entry))) (C·LineCode .decode (now (code .entry)))) (settings .tap) (settings .start) number (tracksOf number (T·Playable .tracks (now (tape .entry))))) (now (group .entry))) (now (group .entry)) ⌝ }
-    ensures findings { λ _. ⌜ now (sheet .exit) .rows ≡ unless (groupDecline (sizeDecline (length (now (buffer .entry))) (settings .tap) (settings .start) (length (now (group .entry))) (length (now (bench .entry)))) number (length (T·Playable .tracks (now (tape .entry))))) (sheetOf (outcomes (codeOf (C·LineCode .encode (now (code .entry))) (C·LineCode .decode (now (code .entry)))) number (T·Playable .tracks (now (tape .entry))))) (now (sheet .entry) .rows) ⌝ }
+    ensures answer { λ r. ⌜ r ≡ judged (groupDecline (sizeDecline (length (now (buffer .entry))) (settings .tap) (settings .start) (length (now (group .entry))) (length (now (bench .entry)))) number (length (T·Playable .tracks (now (tape .entry))))) (answerOf (findings (codeOf (C·LineCode .encode (now (code .entry))) (C·LineCode .decode (now (code .entry)))) number (T·Playable .tracks (now (tape .entry)))) (found (codeOf (C·LineCode .encode (now (code .entry))) (C·LineCode .decode (now (code .entry)))) (settings .tap) (settings .start) number (T·Playable .tracks (now (tape .entry))))) ⌝ }
+    ensures bytes { λ _. ⌜ now (group .exit) ≡ unless (groupDecline (sizeDecline (length (now (buffer .entry))) (settings .tap) (settings .start) (length (now (group .entry))) (length (now (bench .entry)))) number (length (T·Playable .tracks (now (tape .entry))))) (groupAfter (found (codeOf (C·LineCode .encode (now (code .entry))) (C·LineCode .decode (now (code .entry)))) (settings .tap) (settings .start) number (T·Playable .tracks (now (tape .entry)))) (now (group .entry))) (now (group .entry)) ⌝ }
+    ensures findings { λ _. ⌜ now (sheet .exit) .rows ≡ unless (groupDecline (sizeDecline (length (now (buffer .entry))) (settings .tap) (settings .start) (length (now (group .entry))) (length (now (bench .entry)))) number (length (T·Playable .tracks (now (tape .entry))))) (findings (codeOf (C·LineCode .encode (now (code .entry))) (C·LineCode .decode (now (code .entry)))) number (T·Playable .tracks (now (tape .entry)))) (now (sheet .entry) .rows) ⌝ }
     ensures bench_zero { λ _. ⌜ now (bench .exit) ≡ unless (sizeDecline (length (now (buffer .entry))) (settings .tap) (settings .start) (length (now (group .entry))) (length (now (bench .entry)))) (replicate (length (now (bench .entry))) 0) (now (bench .entry)) ⌝ }
     ensures buffer_zero { λ _. ⌜ now (buffer .exit) ≡ unless (sizeDecline (length (now (buffer .entry))) (settings .tap) (settings .start) (length (now (group .entry))) (length (now (bench .entry)))) (replicate (length (now (buffer .entry))) 0) (now (buffer .entry)) ⌝ }
 {
