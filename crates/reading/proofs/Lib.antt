@@ -9,3 +9,4 @@ pub mod Firsts
 pub mod CrossWords
 pub mod Masks
 pub mod WholeGroup
+pub mod Standing

@@ -1,5 +1,6 @@
 -- Why a reading is declined.
 use mathlib.Core.Bool.{Bool, cond, _&&_, _||_}
+use mathlib.Core.List.{List, [], _∷_}
 use Prim.Native.Nat.{ℕ, _*_}
 use lib.Dec.{eqb, leb, ltb}
 use Rattle.std.specs.declared.option.Option.{Option}
@@ -8,6 +9,7 @@ use Rattle.std.specs.declared.result.Result.{Result}
 use Rattle.std.specs.declared.result.Result.the-variants.{Ok, Err}
 use Rattle.reading.specs.declared.fault.ReadFault.{ReadFault}
 use Rattle.reading.specs.declared.fault.ReadFault.the-variants.{TrackBuffer, Setting, GroupBuffer, Bench, NoGroup, ThirdLoss, Unchecked}
+use Rattle.reading.specs.Losses.{causeNumber}
 use Rattle.reading.specs.declared.fault.TrackFault.{TrackFault}
 use Rattle.reading.specs.declared.fault.TrackFault.the-variants.{NoTrack, Words, Memory}
 
@@ -31,14 +33,15 @@ unless (Some e) new old = old
 abbrev pub trackDecline : ℕ → ℕ → ℕ → ℕ → Option TrackFault
 trackDecline words row array t = cond (eqb words 4608) (cond (eqb row 2912 && eqb array 4096) (cond (ltb t 46) None (Some NoTrack)) (Some Memory)) (Some Words)
 
-abbrev pub faultNumber : ReadFault → ℕ
-faultNumber TrackBuffer = 6
-faultNumber Setting = 8
-faultNumber GroupBuffer = 9
-faultNumber Bench = 15
-faultNumber NoGroup = 19
-faultNumber (ThirdLoss track row) = 16
-faultNumber (Unchecked block serial) = 17
+-- the number of each fault, and the values that it names
+abbrev pub faultReport : ReadFault → ℕ × List ℕ
+faultReport TrackBuffer = (6, [])
+faultReport Setting = (8, [])
+faultReport GroupBuffer = (9, [])
+faultReport Bench = (15, [])
+faultReport NoGroup = (19, [])
+faultReport (ThirdLoss track row) = (16, track ∷ causeNumber (row .cause) ∷ row .m ∷ row .n ∷ [])
+faultReport (Unchecked block serial) = (17, block ∷ serial ∷ [])
 
 -- why reading a group is declined before the bench is used: by the sizes of track buffer, group buffer and bench, and the settings
 abbrev pub sizeDecline : ℕ → ℕ → ℕ → ℕ → ℕ → Option ReadFault
@@ -55,6 +58,6 @@ abbrev pub absent : Bool → Option ReadFault
 absent present = cond present None (Some NoGroup)
 
 -- the answer of a call that may be declined before it has one
-abbrev pub judged : {X E : Type 0} → Option E → Result X E → Result X E
-judged None r = r
-judged (Some e) r = Err e
+abbrev pub declinedOr : {X E : Type 0} → Option E → Result X E → Result X E
+declinedOr None r = r
+declinedOr (Some e) r = Err e

@@ -3,3 +3,4 @@ pub mod Arrays
 pub mod Faults
 pub mod Outcomes
 pub mod Groups
+pub mod Laws

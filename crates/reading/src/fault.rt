@@ -1,5 +1,5 @@
 ghost use mathlib.Core.Path.{_≡_};
-ghost use Rattle.reading.specs.Faults.{trackNumber, faultNumber};
+ghost use Rattle.reading.specs.Faults.{trackNumber, faultReport};
 use crate::sheet::LossRow;
 use crate::sheet::LossRowDebug;
 use crate::sheet::LossRowPartialEq;
@@ -46,7 +46,7 @@ pub enum ReadFault {
 impl ReadFault {
     /// The number that a fault is reported by.
     pub fn number(self) -> u8
-        ensures { λ r. ⌜ r ≡ faultNumber self ⌝ }
+        ensures { λ r. ⌜ r ≡ faultReport self .0 ⌝ }
     {
         match self {
             ReadFault::TrackBuffer => 6,

@@ -4,7 +4,7 @@ ghost use Prim.Native.Nat.{ℕ, _+_, _-_, _*_, _<_, _≤_};
 ghost use Rattle.std.specs.Vec.{made};
 ghost use Rattle.std.specs.declared.option.Option.the-variants.{None};
 ghost use Rattle.layout.specs.Line.{codeOf};
-ghost use Rattle.reading.specs.Faults.{answered, unless, judged, sizeDecline, groupDecline, absent};
+ghost use Rattle.reading.specs.Faults.{answered, unless, declinedOr, sizeDecline, groupDecline, absent};
 ghost use Rattle.reading.specs.Groups.{findings, outcomes, found, Holds, foundIn, answerOf, groupAfter};
 ghost use Rattle.reading.specs.Losses.{lossRow, rowAfter};
 use crate::c3::fill_words;
@@ -181,7 +181,7 @@ pub fn read_group<T: Playable, C: LineCode>(
     group: &mut [u8],
     sheet: &mut LossSheet,
 ) -> Result<(), ReadFault>
-    ensures answer { λ r. ⌜ r ≡ judged (groupDecline (sizeDecline (length (now (buffer .entry))) (settings .tap) (settings .start) (length (now (group .entry))) (length (now (bench .entry)))) number (length (T·Playable .tracks (now (tape .entry))))) (answerOf (findings (codeOf (C·LineCode .encode (now (code .entry))) (C·LineCode .decode (now (code .entry)))) number (T·Playable .tracks (now (tape .entry)))) (found (codeOf (C·LineCode .encode (now (code .entry))) (C·LineCode .decode (now (code .entry)))) (settings .tap) (settings .start) number (T·Playable .tracks (now (tape .entry))))) ⌝ }
+    ensures answer { λ r. ⌜ r ≡ declinedOr (groupDecline (sizeDecline (length (now (buffer .entry))) (settings .tap) (settings .start) (length (now (group .entry))) (length (now (bench .entry)))) number (length (T·Playable .tracks (now (tape .entry))))) (answerOf (findings (codeOf (C·LineCode .encode (now (code .entry))) (C·LineCode .decode (now (code .entry)))) number (T·Playable .tracks (now (tape .entry)))) (found (codeOf (C·LineCode .encode (now (code .entry))) (C·LineCode .decode (now (code .entry)))) (settings .tap) (settings .start) number (T·Playable .tracks (now (tape .entry))))) ⌝ }
     ensures bytes { λ _. ⌜ now (group .exit) ≡ unless (groupDecline (sizeDecline (length (now (buffer .entry))) (settings .tap) (settings .start) (length (now (group .entry))) (length (now (bench .entry)))) number (length (T·Playable .tracks (now (tape .entry))))) (groupAfter (found (codeOf (C·LineCode .encode (now (code .entry))) (C·LineCode .decode (now (code .entry)))) (settings .tap) (settings .start) number (T·Playable .tracks (now (tape .entry)))) (now (group .entry))) (now (group .entry)) ⌝ }
     ensures findings { λ _. ⌜ now (sheet .exit) .rows ≡ unless (groupDecline (sizeDecline (length (now (buffer .entry))) (settings .tap) (settings .start) (length (now (group .entry))) (length (now (bench .entry)))) number (length (T·Playable .tracks (now (tape .entry))))) (findings (codeOf (C·LineCode .encode (now (code .entry))) (C·LineCode .decode (now (code .entry)))) number (T·Playable .tracks (now (tape .entry)))) (now (sheet .entry) .rows) ⌝ }
     ensures bench_zero { λ _. ⌜ now (bench .exit) ≡ unless (sizeDecline (length (now (buffer .entry))) (settings .tap) (settings .start) (length (now (group .entry))) (length (now (bench .entry)))) (replicate (length (now (bench .entry))) 0) (now (bench .entry)) ⌝ }

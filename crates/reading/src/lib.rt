@@ -14,3 +14,4 @@ mod recovery;
 pub mod group;
 pub mod sheet;
 pub mod track;
+pub mod theorems;
