@@ -120,7 +120,9 @@ data-at q l h =
     let hb : blockAt q < 128 = f .0 in
     let hs : serialAt q < 32 = f .1 in
     let u : (32 * blockAt q + serialAt q) / 32 ≡ blockAt q = omega arith in
-    let v : (32 * blockAt q + serialAt q) % 32 ≡ serialAt q = omega arith in
-    (32 * blockAt q + serialAt q, omega arith,
+    let v : (32 * blockAt q + serialAt q) % 32 ≡ serialAt q = omega arith in (
+      32 * blockAt q + serialAt q,
+      omega arith,
       ap₂ isData u v ∙ data-from (blockAt q) (serialAt q) (f .2) (subst (λ z. 2 ≤ z) (sym (f .3)) l) (subst (λ z. z < 2880) (sym (f .3)) h),
-      ap₂ numberAt u v ∙ f .3)
+      ap₂ numberAt u v ∙ f .3,
+    )

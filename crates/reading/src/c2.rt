@@ -66,7 +66,11 @@ pub(crate) fn correct(array: &mut [u8], lost: &[bool]) -> LossRow
         for n in 0..width(m) {
             let cause = fill_word(array, lost, m, n);
             if cause.is_loss() {
-                found = LossRow { cause, m: m as u8, n: n as u8 };
+                found = LossRow {
+                    cause,
+                    m: m as u8,
+                    n: n as u8,
+                };
                 break 'words;
             }
         }

@@ -56,7 +56,11 @@ fn read_one<T: Playable, C: LineCode>(
 {
     match tape.fetch(TRACKS * (number as usize - 1) + t, buffer) {
         Ok(()) => read_words(code, buffer, number, t, array, row),
-        Err(_) => LossRow { cause: Cause::Blank, m: 0, n: 0 },
+        Err(_) => LossRow {
+            cause: Cause::Blank,
+            m: 0,
+            n: 0,
+        },
     }
 }
 
@@ -100,12 +104,18 @@ fn judge_group(
     ensures bytes { λ _. ⌜ now (group .exit) ≡ groupAfter (foundIn (settings .tap) (settings .start) (now (sheet .entry) .rows) (now (rows .entry))) (now (group .entry)) ⌝ }
 {
     if let Some(t) = third_lost(sheet) {
-        return Err(ReadFault::ThirdLoss { track: t as u8, row: sheet.finding(t) });
+        return Err(ReadFault::ThirdLoss {
+            track: t as u8,
+            row: sheet.finding(t),
+        });
     }
     let mut lost = [0usize; TRACKS];
     let k = lost_tracks(sheet, &mut lost);
     if let Some(p) = fill_words(rows, &lost[k..]) {
-        return Err(ReadFault::Unchecked { block: (p / 32) as u8, serial: (p % 32) as u8 });
+        return Err(ReadFault::Unchecked {
+            block: (p / 32) as u8,
+            serial: (p % 32) as u8,
+        });
     }
     take_group(rows, settings, group);
     Ok(())
@@ -139,7 +149,12 @@ fn read_present<T: Playable, C: LineCode>(
 }
 
 /// Tests the settings and the sizes of the memory that is lent.
-fn check_sizes(buffer: usize, settings: Settings, group: usize, bench: usize) -> Result<(), ReadFault>
+fn check_sizes(
+    buffer: usize,
+    settings: Settings,
+    group: usize,
+    bench: usize,
+) -> Result<(), ReadFault>
     ensures answer { λ r. ⌜ r ≡ answered (sizeDecline buffer (settings .tap) (settings .start) group bench) tt ⌝ }
     ensures within { λ r. ⌜ made r (λ _. (buffer ≡ 4608) × (settings .start < 32768) × (group ≡ 126632) × (bench ≡ 138048)) ⌝ }
 {

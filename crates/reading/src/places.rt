@@ -56,7 +56,11 @@ fn column(b: usize) -> usize
     ensures within { λ r. ⌜ r ≤ b ⌝ }
 {
     let even = b - b % 2;
-    if b < 52 { even } else { even.saturating_sub(75) }
+    if b < 52 {
+        even
+    } else {
+        even.saturating_sub(75)
+    }
 }
 
 /// The number in the row of the byte at an occupied place.

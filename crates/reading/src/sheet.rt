@@ -52,7 +52,11 @@ pub struct LossRow {
 }
 
 /// The finding on a track that was read.
-pub const NO_LOSS: LossRow = LossRow { cause: Cause::Read, m: 0, n: 0 };
+pub const NO_LOSS: LossRow = LossRow {
+    cause: Cause::Read,
+    m: 0,
+    n: 0,
+};
 
 /// The findings on the 46 tracks of a group.
 #[derive(Clone, Copy)]
@@ -72,7 +76,9 @@ impl LossSheet {
     pub fn new() -> LossSheet
         ensures { λ r. ⌜ r .rows ≡ replicate 46 noLoss ⌝ }
     {
-        LossSheet { rows: [NO_LOSS; TRACKS] }
+        LossSheet {
+            rows: [NO_LOSS; TRACKS],
+        }
     }
 
     /// The row of track `t`.

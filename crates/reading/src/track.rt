@@ -77,7 +77,11 @@ fn judge<C: LineCode>(code: &C, words: &[u16], group: u16, t: usize, array: &mut
         return found;
     }
     if !is_headed(array, t) {
-        return LossRow { cause: Cause::WrongHeader, m: 0, n: 0 };
+        return LossRow {
+            cause: Cause::WrongHeader,
+            m: 0,
+            n: 0,
+        };
     }
     NO_LOSS
 }
