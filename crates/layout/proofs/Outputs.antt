@@ -1,14 +1,16 @@
 -- The register, byte by byte: what goes out next is its low bits.
 use mathlib.Core.Path.{_≡_, refl, sym, ap, _∙_}
+use mathlib.Core.List.{List, [], _∷_}
+use lib.ListN.{length, getD}
 use Prim.Native.Nat.{ℕ, zero, suc, _+_, _-_, _*_, _/_, _%_, _^_, _≤_, _<_}
 use native.Mathlib.Nat.{mod-one, mul-assoc, add-mul-mod-self-left, pow-suc}
 use lib.Arith.{mod-mul}
 use lib.Pow.{pow-pos, pow-add}
 use native.Mathlib.Omega.{arith}
-use lib.Bits.{bitAnd}
+use lib.Bits.{bitXor, bitAnd}
 use lib.Count.{ones}
 use lib.Dec.{lit<}
-use Rattle.layout.specs.Randomizer.{step, steps, output}
+use Rattle.layout.specs.Randomizer.{step, steps, output, randomized}
 
 pub steps-more : (tap k reg : ℕ) → steps tap (suc k) reg ≡ step tap (steps tap k reg)
 unfolding steps
@@ -39,3 +41,17 @@ out-low tap (suc k) reg h =
     let n : k + (14 - k) ≡ 14 = omega arith in
     out-more tap reg k (2 ^ k) (2 ^ (14 - k)) (pow-pos k) (ap (λ z. 2 ^ z) (sym n) ∙ pow-add 2 k (14 - k)) (λ r. out-low tap k r (omega arith))
     ∙ ap (λ z. reg % z) (sym (pow-suc 2 k))
+
+pub no-steps : (tap reg : ℕ) → reg ≡ steps tap (8 * 0) reg
+unfolding steps
+no-steps tap reg = refl
+
+-- byte d of a randomized list
+pub randomized-at : (tap reg : ℕ) (xs : List ℕ) (d : ℕ) → d < length xs → getD (randomized tap reg xs) d 0 ≡ bitXor (getD xs d 0) (output tap 8 (steps tap (8 * d) reg))
+unfolding randomized
+randomized-at tap reg [] d h = absurd (omega arith)
+randomized-at tap reg (x ∷ xs) zero h = ap (λ r. bitXor x (output tap 8 r)) (no-steps tap reg)
+randomized-at tap reg (x ∷ xs) (suc d) h =
+    let e : 8 + 8 * d ≡ 8 * suc d = omega arith in
+    randomized-at tap (steps tap 8 reg) xs d (omega arith)
+    ∙ ap (λ r. bitXor (getD xs d 0) (output tap 8 r)) (steps-add tap (8 * d) 8 reg ∙ ap (λ m. steps tap m reg) e)

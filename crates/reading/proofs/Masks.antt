@@ -1,55 +1,25 @@
 -- The randomizer's output at each byte, and the bytes of a group.
 use mathlib.Core.Path.{_≡_, refl, sym, ap, ap₂, subst, _∙_}
 use mathlib.Core.List.{List, [], _∷_, _++_}
-use mathlib.Core.Logic.{_≢_, _⊎_, inl, inr}
-use Prim.Native.Nat.{ℕ, zero, suc, _+_, _*_, _/_, _%_, _≤_, _<_}
-use native.Mathlib.Nat.{mul-suc, mul-add, mul-one, zero-add}
-use native.Mathlib.Numerals.{add-one}
+use mathlib.Core.Logic.{inl, inr}
+use Prim.Native.Nat.{ℕ, zero, suc, _+_, _*_, _<_}
+use native.Mathlib.Nat.{mul-suc, mul-add, mul-one}
 use native.Mathlib.Omega.{arith}
 use lib.Bits.{bitXor}
 use lib.ListN.{length, getD, set, take, drop, length-drop, take-append-drop}
 use lib.Seq.{getD-set-same, getD-set-other, getD-take, getD-drop, ext-getD, length-take-le}
 use Rattle.std.proofs.shelf.Tests.{cases-eq}
 use Rattle.layout.specs.Counts.{listed}
-use Rattle.layout.specs.Randomizer.{step, steps, output, randomized}
+use Rattle.layout.specs.Randomizer.{steps, output, randomized}
 use Rattle.layout.specs.Group.{signD, numberD, joined}
 use Rattle.layout.proofs.Counts.{length-listed, getD-listed}
+use Rattle.layout.proofs.Outputs.{randomized-at}
 use Rattle.reading.specs.Groups.{placeIn, Spread, groupIn}
 
-pub steps-add : (tap a b r : ℕ) → steps tap (a + b) r ≡ steps tap b (steps tap a r)
-unfolding steps
-steps-add tap zero b r = ap (λ n. steps tap n r) (zero-add b)
-steps-add tap (suc a) b r = let e : suc a + b ≡ suc (a + b) = omega arith in ap (λ n. steps tap n r) e ∙ steps-add tap a b (step tap r)
-
-pub output-two : (tap r middle : ℕ) → middle ≡ step tap r → r % 2 + 2 * (middle % 2) ≡ output tap 2 r
-unfolding output
-output-two tap r middle e = omega (arith, ap (λ z. z % 2) e)
-
--- two bits and then k more
-pub output-more : (tap k r low high next : ℕ) → low ≡ output tap 2 r → next ≡ steps tap 2 r → high ≡ output tap k next → low + 4 * high ≡ output tap (suc (suc k)) r
-unfolding output steps
-output-more tap k r low high next el en eh =
-    let o : high ≡ output tap k (step tap (step tap r)) = eh ∙ ap (output tap k) en in
-    omega (arith, el, o)
-
--- the byte d of a randomized list
 length-randomized : (tap reg : ℕ) (xs : List ℕ) → length (randomized tap reg xs) ≡ length xs
 unfolding randomized
 length-randomized tap reg [] = refl
 length-randomized tap reg (x ∷ xs) = ap suc (length-randomized tap (steps tap 8 reg) xs)
-
-no-steps : (tap reg : ℕ) → reg ≡ steps tap (8 * 0) reg
-unfolding steps
-no-steps tap reg = refl
-
-randomized-at : (tap reg : ℕ) (xs : List ℕ) (d : ℕ) → d < length xs → getD (randomized tap reg xs) d 0 ≡ bitXor (getD xs d 0) (output tap 8 (steps tap (8 * d) reg))
-unfolding randomized
-randomized-at tap reg [] d h = absurd (omega arith)
-randomized-at tap reg (x ∷ xs) zero h = ap (λ r. bitXor x (output tap 8 r)) (no-steps tap reg)
-randomized-at tap reg (x ∷ xs) (suc d) h =
-    let e : 8 + 8 * d ≡ 8 * suc d = omega arith in
-    let l : d < length xs = omega arith in
-    randomized-at tap (steps tap 8 reg) xs d l ∙ ap (λ r. bitXor (getD xs d 0) (output tap 8 r)) (sym (steps-add tap 8 (8 * d) reg) ∙ ap (λ n. steps tap n reg) e)
 
 -- lists of one length joined
 pub joined-is : (f : ℕ → List ℕ) (w n a : ℕ) (u : List ℕ) → ((k : ℕ) → k < n → length (f (a + k)) ≡ w) → length u ≡ w * n

@@ -11,7 +11,6 @@ use crate::c3::fill_words;
 use crate::c3::lost_tracks;
 use crate::c3::third_lost;
 use crate::fault::ReadFault;
-use crate::randomizer::Settings;
 use crate::randomizer::take_group;
 use crate::sheet::Cause;
 use crate::sheet::LossRow;
@@ -21,6 +20,7 @@ use crate::track::ROW;
 use crate::track::WORDS;
 use crate::track::read_words;
 use channel::line::LineCode;
+use layout::settings::Settings;
 use tape::traits::Playable;
 
 /// The bytes of a group.

@@ -1,6 +1,5 @@
 pub mod GroupMade
 pub mod Made
-pub mod Pads
 pub mod Passes
 pub mod RowSteps
 pub mod RowsMade

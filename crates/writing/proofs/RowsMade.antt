@@ -19,20 +19,20 @@ use Rattle.layout.specs.Group.{part}
 use Rattle.layout.specs.Writing.{c3Checks, dataAt, c3At, byteOf}
 use Rattle.layout.proofs.Counts.{listed-same}
 use Rattle.writing.specs.Rows.{padAt, dataIndex, plainAt, c3Filled, HasRows}
-use Rattle.writing.proofs.Pads.{getD-randomized}
+use Rattle.layout.proofs.Outputs.{randomized-at}
 
 module _ (tap start : ℕ) (group pad zs ys : List ℕ) (size : length group ≡ 126632) (pads : (d : ℕ) → d < 5756 → getD pad d 0 ≡ padAt tap start d)
     (spread : (p : ℕ) → p < 133952 → getD zs p 0 ≡ plainAt group pad (p / 2912) (p % 2912)) (checked : (p : ℕ) → p < 133952 → getD ys p 0 ≡ c3Filled zs p) where
   -- a data byte, randomized
   data-at : (k q : ℕ) → k < 44 → 2 ≤ q → q < 2880 → bitXor (getD group (5756 * (k / 2) + dataIndex k q) 0) (getD pad (dataIndex k q) 0) ≡ dataAt tap start group k q
-  unfolding dataAt
+  unfolding dataAt padAt
   data-at k q hk h2 hq =
       let d : ℕ = dataIndex k q in
       let f : ℕ = k / 2 in
       let hd : d < 5756 = omega arith in
       let l : length (part group f) ≡ 5756 = simp (length-take, length-drop) (omega arith) in
       let g : getD (part group f) d 0 ≡ getD group (5756 * f + d) 0 = getD-take 5756 (drop (5756 * f) group) d 0 hd ∙ getD-drop (5756 * f) group d 0 in
-      ap₂ bitXor (sym g) (pads d hd) ∙ sym (getD-randomized tap start (part group f) d (omega arith))
+      ap₂ bitXor (sym g) (pads d hd) ∙ sym (randomized-at tap start (part group f) d (omega arith))
 
   -- what stands at number q of row k, before C3
   before : (k q : ℕ) → k < 46 → q < 2912 → getD zs (2912 * k + q) 0 ≡ plainAt group pad k q

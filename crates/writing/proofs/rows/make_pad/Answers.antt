@@ -4,12 +4,11 @@ use native.Mathlib.Omega.{arith}
 use Rattle.std.proofs.shelf.Edits.{fill-by-more}
 use Rattle.layout.specs.Randomizer.{steps, output}
 use Rattle.writing.specs.Rows.{padAt}
-use Rattle.writing.proofs.Pads.{pad-none}
-use Rattle.layout.proofs.Outputs.{steps-add}
+use Rattle.layout.proofs.Outputs.{steps-add, no-steps}
 use Rattle.writing.proofs.rows.make_pad.Needs as need
 
 pub loop-d-holds : need.loop-d-holds
-loop-d-holds c = (pad-none (c .args .tap) (c .args .start), c .pre, λ k h. absurd (omega arith))
+loop-d-holds c = (no-steps (c .args .tap) (c .args .start), c .pre, λ k h. absurd (omega arith))
 
 pub loop-d-again : need.loop-d-again
 unfolding padAt

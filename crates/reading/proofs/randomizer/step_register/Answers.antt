@@ -1,8 +1,0 @@
-use mathlib.Core.Path.{refl}
-use native.Mathlib.Omega.{arith}
-use Rattle.layout.specs.Randomizer.{step}
-use Rattle.reading.proofs.randomizer.step_register.Needs as need
-
-pub returns : need.returns
-unfolding step
-returns c = record { is = refl; below = omega (arith, c .pre) }
