@@ -12,6 +12,16 @@ use channel::line::LineCode;
 /// The blocks of a track.
 const BLOCKS: usize = 128;
 
+/// The channel words of a block: a sync word, three labels and the bytes.
+const BLOCK_WORDS: usize = 36;
+
+/// The bytes of a block.
+const BLOCK_BYTES: usize = 32;
+
+/// The sync words after state 0 and state 1.
+const SYNC_ZERO: u16 = 273;
+const SYNC_ONE: u16 = 785;
+
 /// The first label of a block of track `t` of a group.
 fn first_label(group: u16, t: usize, b: usize) -> u8
     requires { ⌜ t < 46 ⌝ }
@@ -38,7 +48,7 @@ fn gives(byte: Option<u8>, x: u8) -> bool
 fn is_sync(word: u16) -> bool
     ensures { λ r. ⌜ r ≡ (eqb word 273 || eqb word 785) ⌝ }
 {
-    word == 273 || word == 785
+    word == SYNC_ZERO || word == SYNC_ONE
 }
 
 /// Whether all four hold.
@@ -64,7 +74,7 @@ fn block_lost<C: LineCode>(code: &C, words: &[u16], group: u16, t: usize, b: usi
 {
     let w1 = first_label(group, t, b);
     let w2 = b as u8;
-    let start = 36 * b;
+    let start = BLOCK_WORDS * b;
     let sync = is_sync(words[start]);
     let one = gives(code.decode(words[start + 1]), w1);
     let two = gives(code.decode(words[start + 2]), w2);
@@ -103,9 +113,9 @@ fn take_block<C: LineCode>(
     requires so_far { ⌜ Taken (codeOf (C·LineCode .encode (now code)) (C·LineCode .decode (now code))) (address group t) (at (now words)) (now array) (now lost) (32 * b) ⌝ }
     ensures { λ _. ⌜ Taken (codeOf (C·LineCode .encode (now (code .entry))) (C·LineCode .decode (now (code .entry)))) (address group t) (at (now (words .entry))) (now (array .exit)) (now (lost .exit)) (32 * (b + 1)) ⌝ }
 {
-    for s in 0..32 {
-        let (byte, none) = byte_or_zero(code.decode(words[36 * b + (4 + s)]));
-        array[32 * b + s] = byte;
+    for s in 0..BLOCK_BYTES {
+        let (byte, none) = byte_or_zero(code.decode(words[BLOCK_WORDS * b + (4 + s)]));
+        array[BLOCK_BYTES * b + s] = byte;
         lost[2 * (b / 2) + s % 2] = either(lost[2 * (b / 2) + s % 2], either(gone, none));
     }
 }

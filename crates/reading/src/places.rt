@@ -6,6 +6,10 @@ ghost use Rattle.layout.specs.Group.{numberD, signD};
 ghost use Rattle.layout.specs.Placing.{blockAt, serialAt, numberAt, isOccupied, isData};
 ghost use Rattle.std.specs.declared.option.Option.the-variants.{Some, None};
 
+/// The numbers of the D bytes in a row, from the first on and up to before the second.
+const DATA_START: usize = 2;
+const DATA_END: usize = 2880;
+
 /// The block of number `q` of a row.
 pub(crate) fn block_at(q: usize) -> usize
     requires { ⌜ q < 2912 ⌝ }
@@ -81,10 +85,10 @@ pub(crate) fn data_number(p: usize) -> Option<usize>
         return None;
     }
     let q = number_at(p / 32, p % 32);
-    if q < 2 {
+    if q < DATA_START {
         return None;
     }
-    if q >= 2880 {
+    if q >= DATA_END {
         return None;
     }
     Some(q)

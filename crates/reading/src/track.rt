@@ -32,6 +32,10 @@ pub const ARRAY: usize = 4096;
 /// The bytes of a row, those at the occupied places of an array.
 pub const ROW: usize = 2912;
 
+/// The check frame, and its frame byte.
+const CHECK_FRAME: usize = 23;
+const CHECK_FRAME_BYTE: u8 = 215;
+
 /// Takes the bytes at the occupied places.
 fn take_row(array: &[u8], out: &mut [u8])
     requires { ⌜ length (now array) ≡ 4096 ⌝ }
@@ -49,7 +53,7 @@ fn frame_byte(t: usize) -> u8
     ensures { λ r. ⌜ r ≡ frameByte (t / 2 + 1) ⌝ }
 {
     let frame = t / 2 + 1;
-    if frame == 23 { 215 } else { frame as u8 }
+    if frame == CHECK_FRAME { CHECK_FRAME_BYTE } else { frame as u8 }
 }
 
 /// Whether the two header bytes are those of track `t`.
