@@ -94,14 +94,14 @@ fn byte_or_zero(byte: Option<u8>) -> (u8, bool)
 }
 
 /// Takes the bytes of block `b` into the array, and marks the C1 words of those that are lost: all of them if the block
-/// is `gone`.
+/// is.
 fn take_block<C: LineCode>(
     code: &C,
     words: &[u16],
     group: u16,
     t: usize,
     b: usize,
-    gone: bool,
+    all: bool,
     array: &mut [u8],
     lost: &mut [bool],
 )
@@ -109,14 +109,14 @@ fn take_block<C: LineCode>(
     requires array { ⌜ length (now array) ≡ 4096 ⌝ }
     requires lost { ⌜ length (now lost) ≡ 128 ⌝ }
     requires block { ⌜ b < 128 ⌝ }
-    requires gone { ⌜ gone ≡ blockLost (codeOf (C·LineCode .encode (now code)) (C·LineCode .decode (now code))) (address group t) (at (now words)) b ⌝ }
+    requires all { ⌜ all ≡ blockLost (codeOf (C·LineCode .encode (now code)) (C·LineCode .decode (now code))) (address group t) (at (now words)) b ⌝ }
     requires so_far { ⌜ Taken (codeOf (C·LineCode .encode (now code)) (C·LineCode .decode (now code))) (address group t) (at (now words)) (now array) (now lost) (32 * b) ⌝ }
     ensures { λ _. ⌜ Taken (codeOf (C·LineCode .encode (now (code .entry))) (C·LineCode .decode (now (code .entry)))) (address group t) (at (now (words .entry))) (now (array .exit)) (now (lost .exit)) (32 * (b + 1)) ⌝ }
 {
     for s in 0..BLOCK_BYTES {
         let (byte, none) = byte_or_zero(code.decode(words[BLOCK_WORDS * b + (4 + s)]));
         array[BLOCK_BYTES * b + s] = byte;
-        lost[2 * (b / 2) + s % 2] = either(lost[2 * (b / 2) + s % 2], either(gone, none));
+        lost[2 * (b / 2) + s % 2] = either(lost[2 * (b / 2) + s % 2], either(all, none));
     }
 }
 
@@ -137,7 +137,7 @@ pub(crate) fn take_bytes<C: LineCode>(
     ensures { λ _. ⌜ Taken (codeOf (C·LineCode .encode (now (code .entry))) (C·LineCode .decode (now (code .entry)))) (address group t) (at (now (words .entry))) (now (array .exit)) (now (lost .exit)) 4096 ⌝ }
 {
     for b in 0..BLOCKS {
-        let gone = block_lost(code, words, group, t, b);
-        take_block(code, words, group, t, b, gone, array, lost);
+        let all = block_lost(code, words, group, t, b);
+        take_block(code, words, group, t, b, all, array, lost);
     }
 }
