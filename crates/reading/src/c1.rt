@@ -9,9 +9,13 @@ use reed_solomon::interleaved::checks_interleaved;
 /// The C1 words of a track: number 2h + l is word (2h, l).
 pub(crate) const C1_WORDS: usize = 128;
 
-/// The bytes of a C1 word, the check bytes among them, and from one byte to the next in the array.
+/// The bytes of a C1 word.
 const BYTES: usize = 32;
+
+/// The check bytes among them.
 const CHECKS: usize = 4;
+
+/// How far its bytes lie apart in the array.
 const STRIDE: usize = 2;
 
 /// Whether C1 word `k` is lost, where it may be marked so already: marked, or it does not check.

@@ -11,9 +11,13 @@ use crate::sheet::Cause;
 use crate::sheet::LossRow;
 use crate::sheet::NO_LOSS;
 
-/// The bytes of a C2 word, the check bytes among them, and from one byte to the next in the array.
+/// The bytes of a C2 word.
 const BYTES: usize = 32;
+
+/// The check bytes among them.
 const CHECKS: usize = 6;
+
+/// How far its bytes lie apart in the array.
 const STRIDE: usize = 128;
 
 /// Where a list of lost places that ends at 32 begins, if it has as many as there are check bytes.

@@ -18,8 +18,10 @@ const BLOCK_WORDS: usize = 36;
 /// The bytes of a block.
 const BLOCK_BYTES: usize = 32;
 
-/// The sync words after state 0 and state 1.
+/// The sync word after state 0.
 const SYNC_ZERO: u16 = 273;
+
+/// The sync word after state 1.
 const SYNC_ONE: u16 = 785;
 
 /// The first label of a block of track `t` of a group.

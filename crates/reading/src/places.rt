@@ -6,8 +6,10 @@ ghost use Rattle.layout.specs.Group.{numberD, signD};
 ghost use Rattle.layout.specs.Placing.{blockAt, serialAt, numberAt, isOccupied, isData};
 ghost use Rattle.std.specs.declared.option.Option.the-variants.{Some, None};
 
-/// The numbers of the D bytes in a row, from the first on and up to before the second.
+/// The number of the first D byte of a row.
 const DATA_START: usize = 2;
+
+/// The number after its last D byte.
 const DATA_END: usize = 2880;
 
 /// The block of number `q` of a row.
