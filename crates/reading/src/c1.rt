@@ -9,6 +9,15 @@ use reed_solomon::interleaved::checks_interleaved;
 /// The C1 words of a track: number 2h + l is word (2h, l).
 pub(crate) const C1_WORDS: usize = 128;
 
+/// The bytes of a C1 word.
+const BYTES: usize = 32;
+
+/// The check bytes among them.
+const CHECKS: usize = 4;
+
+/// How far its bytes lie apart in the array.
+const STRIDE: usize = 2;
+
 /// Whether C1 word `k` is lost, where it may be marked so already: marked, or it does not check.
 fn is_lost(array: &[u8], marked: bool, k: usize) -> bool
     requires { ⌜ length (now array) ≡ 4096 ⌝ }
@@ -18,7 +27,7 @@ fn is_lost(array: &[u8], marked: bool, k: usize) -> bool
     if marked {
         return true;
     }
-    !checks_interleaved(array, 64 * (k / 2) + k % 2, 2, 32, 4)
+    !checks_interleaved(array, 64 * (k / 2) + k % 2, STRIDE, BYTES, CHECKS)
 }
 
 /// Marks the C1 words that do not check.

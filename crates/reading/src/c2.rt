@@ -11,6 +11,18 @@ use crate::sheet::Cause;
 use crate::sheet::LossRow;
 use crate::sheet::NO_LOSS;
 
+/// The bytes of a C2 word.
+const BYTES: usize = 32;
+
+/// The check bytes among them.
+const CHECKS: usize = 6;
+
+/// How far its bytes lie apart in the array.
+const STRIDE: usize = 128;
+
+/// Where a list of lost places that ends at 32 begins, if it has as many as there are check bytes.
+const EARLIEST: usize = BYTES - CHECKS;
+
 /// The lost places of C2 word (m, n), in the end of `out` from the answer on.
 fn erasures(lost: &[bool], m: usize, n: usize, out: &mut [usize]) -> usize
     requires { ⌜ length (now lost) ≡ 128 ⌝ }
@@ -20,8 +32,8 @@ fn erasures(lost: &[bool], m: usize, n: usize, out: &mut [usize]) -> usize
     ensures within { λ k. ⌜ k ≤ 32 ⌝ }
     ensures listed { λ k. ⌜ drop k (now (out .exit)) ≡ which (λ j. erasedIn (now (lost .entry)) (m + 4 * j) n) 32 ⌝ }
 {
-    let mut k = 32;
-    for j in 0..32 {
+    let mut k = BYTES;
+    for j in 0..BYTES {
         k = put_before(out, k, j, lost[2 * ((m + 4 * j) / 2) + n % 2]);
     }
     k
@@ -35,12 +47,12 @@ fn fill_word(array: &mut [u8], lost: &[bool], m: usize, n: usize) -> Cause
     requires { ⌜ n < 32 ⌝ }
     ensures { λ r. ⌜ Corrected (now (lost .entry)) (now (array .entry)) (now (array .exit)) m n (causeNumber r) ⌝ }
 {
-    let mut places = [0usize; 32];
+    let mut places = [0usize; BYTES];
     let k = erasures(lost, m, n, &mut places);
-    if k < 26 {
+    if k < EARLIEST {
         return Cause::TooManyLost;
     }
-    if recover(array, 32 * m + n, 128, 32, &places[k..], 6) {
+    if recover(array, 32 * m + n, STRIDE, BYTES, &places[k..], CHECKS) {
         Cause::Read
     } else {
         Cause::NoFilling

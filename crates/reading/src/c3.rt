@@ -15,11 +15,14 @@ use crate::sheet::TRACKS;
 use crate::track::ARRAY;
 use crate::track::ROW;
 
+/// The check bytes of a C3 word.
+const CHECKS: usize = 2;
+
 /// Whether a track is the third lost one, after `count` others.
 fn is_third(lost: bool, count: usize) -> bool
     ensures { λ r. ⌜ r ≡ (lost && eqb count 2) ⌝ }
 {
-    lost && count == 2
+    lost && count == CHECKS
 }
 
 /// One more, if the track is lost.
@@ -67,7 +70,7 @@ fn fill_place(rows: &mut [u8], lost: &[usize], p: usize) -> bool
     ensures { λ a. ⌜ Column (now (lost .entry)) (now (rows .entry)) (now (rows .exit)) p a ⌝ }
 {
     match data_number(p) {
-        Some(q) => recover(rows, q, ROW, TRACKS, lost, 2),
+        Some(q) => recover(rows, q, ROW, TRACKS, lost, CHECKS),
         None => true,
     }
 }

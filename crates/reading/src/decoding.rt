@@ -12,6 +12,18 @@ use channel::line::LineCode;
 /// The blocks of a track.
 const BLOCKS: usize = 128;
 
+/// The channel words of a block: a sync word, three labels and the bytes.
+const BLOCK_WORDS: usize = 36;
+
+/// The bytes of a block.
+const BLOCK_BYTES: usize = 32;
+
+/// The sync word after state 0.
+const SYNC_ZERO: u16 = 273;
+
+/// The sync word after state 1.
+const SYNC_ONE: u16 = 785;
+
 /// The first label of a block of track `t` of a group.
 fn first_label(group: u16, t: usize, b: usize) -> u8
     requires { ⌜ t < 46 ⌝ }
@@ -38,7 +50,7 @@ fn gives(byte: Option<u8>, x: u8) -> bool
 fn is_sync(word: u16) -> bool
     ensures { λ r. ⌜ r ≡ (eqb word 273 || eqb word 785) ⌝ }
 {
-    word == 273 || word == 785
+    word == SYNC_ZERO || word == SYNC_ONE
 }
 
 /// Whether all four hold.
@@ -64,7 +76,7 @@ fn block_lost<C: LineCode>(code: &C, words: &[u16], group: u16, t: usize, b: usi
 {
     let w1 = first_label(group, t, b);
     let w2 = b as u8;
-    let start = 36 * b;
+    let start = BLOCK_WORDS * b;
     let sync = is_sync(words[start]);
     let one = gives(code.decode(words[start + 1]), w1);
     let two = gives(code.decode(words[start + 2]), w2);
@@ -84,14 +96,14 @@ fn byte_or_zero(byte: Option<u8>) -> (u8, bool)
 }
 
 /// Takes the bytes of block `b` into the array, and marks the C1 words of those that are lost: all of them if the block
-/// is `gone`.
+/// is.
 fn take_block<C: LineCode>(
     code: &C,
     words: &[u16],
     group: u16,
     t: usize,
     b: usize,
-    gone: bool,
+    all: bool,
     array: &mut [u8],
     lost: &mut [bool],
 )
@@ -99,14 +111,14 @@ fn take_block<C: LineCode>(
     requires array { ⌜ length (now array) ≡ 4096 ⌝ }
     requires lost { ⌜ length (now lost) ≡ 128 ⌝ }
     requires block { ⌜ b < 128 ⌝ }
-    requires gone { ⌜ gone ≡ blockLost (codeOf (C·LineCode .encode (now code)) (C·LineCode .decode (now code))) (address group t) (at (now words)) b ⌝ }
+    requires all { ⌜ all ≡ blockLost (codeOf (C·LineCode .encode (now code)) (C·LineCode .decode (now code))) (address group t) (at (now words)) b ⌝ }
     requires so_far { ⌜ Taken (codeOf (C·LineCode .encode (now code)) (C·LineCode .decode (now code))) (address group t) (at (now words)) (now array) (now lost) (32 * b) ⌝ }
     ensures { λ _. ⌜ Taken (codeOf (C·LineCode .encode (now (code .entry))) (C·LineCode .decode (now (code .entry)))) (address group t) (at (now (words .entry))) (now (array .exit)) (now (lost .exit)) (32 * (b + 1)) ⌝ }
 {
-    for s in 0..32 {
-        let (byte, none) = byte_or_zero(code.decode(words[36 * b + (4 + s)]));
-        array[32 * b + s] = byte;
-        lost[2 * (b / 2) + s % 2] = either(lost[2 * (b / 2) + s % 2], either(gone, none));
+    for s in 0..BLOCK_BYTES {
+        let (byte, none) = byte_or_zero(code.decode(words[BLOCK_WORDS * b + (4 + s)]));
+        array[BLOCK_BYTES * b + s] = byte;
+        lost[2 * (b / 2) + s % 2] = either(lost[2 * (b / 2) + s % 2], either(all, none));
     }
 }
 
@@ -127,7 +139,7 @@ pub(crate) fn take_bytes<C: LineCode>(
     ensures { λ _. ⌜ Taken (codeOf (C·LineCode .encode (now (code .entry))) (C·LineCode .decode (now (code .entry)))) (address group t) (at (now (words .entry))) (now (array .exit)) (now (lost .exit)) 4096 ⌝ }
 {
     for b in 0..BLOCKS {
-        let gone = block_lost(code, words, group, t, b);
-        take_block(code, words, group, t, b, gone, array, lost);
+        let all = block_lost(code, words, group, t, b);
+        take_block(code, words, group, t, b, all, array, lost);
     }
 }

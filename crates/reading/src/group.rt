@@ -17,11 +17,11 @@ use crate::sheet::LossRow;
 use crate::sheet::LossSheet;
 use crate::sheet::TRACKS;
 use crate::track::ROW;
-use crate::track::WORDS;
 use crate::track::read_words;
 use channel::line::LineCode;
 use layout::settings::Settings;
 use tape::traits::Playable;
+use tape::traits::WORDS;
 
 /// The bytes of a group.
 pub const GROUP: usize = 126632;

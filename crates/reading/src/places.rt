@@ -6,6 +6,12 @@ ghost use Rattle.layout.specs.Group.{numberD, signD};
 ghost use Rattle.layout.specs.Placing.{blockAt, serialAt, numberAt, isOccupied, isData};
 ghost use Rattle.std.specs.declared.option.Option.the-variants.{Some, None};
 
+/// The number of the first D byte of a row.
+const DATA_START: usize = 2;
+
+/// The number after its last D byte.
+const DATA_END: usize = 2880;
+
 /// The block of number `q` of a row.
 pub(crate) fn block_at(q: usize) -> usize
     requires { ⌜ q < 2912 ⌝ }
@@ -81,10 +87,10 @@ pub(crate) fn data_number(p: usize) -> Option<usize>
         return None;
     }
     let q = number_at(p / 32, p % 32);
-    if q < 2 {
+    if q < DATA_START {
         return None;
     }
-    if q >= 2880 {
+    if q >= DATA_END {
         return None;
     }
     Some(q)

@@ -22,15 +22,19 @@ use crate::sheet::LossRow;
 use crate::sheet::NO_LOSS;
 use crate::sheet::TRACKS;
 use channel::line::LineCode;
-
-/// The channel words of a track.
-pub const WORDS: usize = 4608;
+use tape::traits::WORDS;
 
 /// The bytes of a track's array, 128 blocks of 32.
 pub const ARRAY: usize = 4096;
 
 /// The bytes of a row, those at the occupied places of an array.
 pub const ROW: usize = 2912;
+
+/// The frame of the C3 check bytes.
+const CHECK_FRAME: usize = 23;
+
+/// Its frame byte.
+const CHECK_FRAME_BYTE: u8 = 215;
 
 /// Takes the bytes at the occupied places.
 fn take_row(array: &[u8], out: &mut [u8])
@@ -49,7 +53,11 @@ fn frame_byte(t: usize) -> u8
     ensures { λ r. ⌜ r ≡ frameByte (t / 2 + 1) ⌝ }
 {
     let frame = t / 2 + 1;
-    if frame == 23 { 215 } else { frame as u8 }
+    if frame == CHECK_FRAME {
+        CHECK_FRAME_BYTE
+    } else {
+        frame as u8
+    }
 }
 
 /// Whether the two header bytes are those of track `t`.

@@ -17,10 +17,10 @@ rest xs k e = subst (λ n. take (n - k) (drop k xs) ≡ drop k xs) e (take-rest 
 few : (xs : List ℕ) (k : ℕ) → length xs ≡ 32 → 26 ≤ k → length (take (32 - k) (drop k xs)) ≤ 6
 few xs k e h = subst (λ z. length z ≤ 6) (sym (rest xs k e)) (omega (arith, length-drop k xs))
 
-pub returns-then-k-lt26 : need.returns-then-k-lt26
-returns-then-k-lt26 c = record {
+pub returns-then-k-lt-EARLIEST : need.returns-then-k-lt-EARLIEST
+returns-then-k-lt-EARLIEST c = record {
   cause = cause-many (c .args .lost .now) (c .args .array .now) (c .args .array .now) (drop (c .erasures-k .result) (c .erasures-k .last .out)) (c .args .m) (c .args .n) (c .erasures-k .ensures .listed)
-      (omega (arith, length-drop (c .erasures-k .result) (c .erasures-k .last .out), c .erasures-k .kept .out, c .if-k-lt26 .taken));
+      (omega (arith, length-drop (c .erasures-k .result) (c .erasures-k .last .out), c .erasures-k .kept .out, c .if-k-lt-EARLIEST .taken));
   here = λ e. absurd (omega (arith, e));
 }
 
@@ -31,17 +31,17 @@ recover-requires c κs = record {
   n = omega arith;
   places = which-places (λ j. erasedIn (c .args .lost .now) (c .args .m + 4 * j) (c .args .n)) 32 (take (32 - c .erasures-k .result) (drop (c .erasures-k .result) (c .erasures-k .last .out)))
       (rest (c .erasures-k .last .out) (c .erasures-k .result) (c .erasures-k .kept .out) ∙ c .erasures-k .ensures .listed);
-  few = few (c .erasures-k .last .out) (c .erasures-k .result) (c .erasures-k .kept .out) (c .if-k-lt26 .left);
+  few = few (c .erasures-k .last .out) (c .erasures-k .result) (c .erasures-k .kept .out) (c .if-k-lt-EARLIEST .left);
 }
 
 pub returns-then-recover : need.returns-then-recover
 returns-then-recover c =
     corrected-is (c .args .lost .now) (c .args .array .now) (c .recover .last .memory) (take (32 - c .erasures-k .result) (drop (c .erasures-k .result) (c .erasures-k .last .out))) (c .args .m) (c .args .n)
     (rest (c .erasures-k .last .out) (c .erasures-k .result) (c .erasures-k .kept .out) ∙ c .erasures-k .ensures .listed)
-    (few (c .erasures-k .last .out) (c .erasures-k .result) (c .erasures-k .kept .out) (c .if-k-lt26 .left)) (c .pre .2) (c .pre .3) true (c .if-recover .ensures tt)
+    (few (c .erasures-k .last .out) (c .erasures-k .result) (c .erasures-k .kept .out) (c .if-k-lt-EARLIEST .left)) (c .pre .2) (c .pre .3) true (c .if-recover .ensures tt)
 
 pub returns-else-recover : need.returns-else-recover
 returns-else-recover c =
     corrected-is (c .args .lost .now) (c .args .array .now) (c .recover .last .memory) (take (32 - c .erasures-k .result) (drop (c .erasures-k .result) (c .erasures-k .last .out))) (c .args .m) (c .args .n)
     (rest (c .erasures-k .last .out) (c .erasures-k .result) (c .erasures-k .kept .out) ∙ c .erasures-k .ensures .listed)
-    (few (c .erasures-k .last .out) (c .erasures-k .result) (c .erasures-k .kept .out) (c .if-k-lt26 .left)) (c .pre .2) (c .pre .3) false (c .if-recover .ensures tt)
+    (few (c .erasures-k .last .out) (c .erasures-k .result) (c .erasures-k .kept .out) (c .if-k-lt-EARLIEST .left)) (c .pre .2) (c .pre .3) false (c .if-recover .ensures tt)
