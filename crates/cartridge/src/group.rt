@@ -5,17 +5,21 @@ use layout::settings::Settings;
 use reading::group::read_group;
 use reading::sheet::LossSheet;
 use std::io;
+use tape::lent::LentRecordable;
 use tape::traits::Recordable;
 use tape::window::Window;
-use writing::group::write_group;
-use writing::fault::WriteFaultDebug;
-use tape::lent::LentRecordable;
 use tape::window::WindowRecordable;
+use writing::fault::WriteFaultDebug;
+use writing::group::write_group;
 
-const SETTINGS: Settings = Settings { tap: 3, start: 12345 };
+const SETTINGS: Settings = Settings {
+    tap: 3,
+    start: 12345,
+};
 
 /// What the group begins with.
 const TEXT: &[u8; 28] = b"Sector 7 searched, all clear";
+
 const OLD: &[u8; 28] = b"Sector 9: this was last year";
 
 /// A group that begins with a text, and goes on with zeros.
@@ -75,7 +79,11 @@ fn write_old<T: Recordable, C: LineCode>(
     bench: &mut [u8],
     buffer: &mut [u16],
 ) -> io::Result<()> {
-    let mut older = Window { below: tape, first: 46, count: 46 };
+    let mut older = Window {
+        below: tape,
+        first: 46,
+        count: 46,
+    };
     println!(rt, "An older recording")?;
     write(rt, &mut older, code, 1, group, bench, buffer)
 }
@@ -98,12 +106,36 @@ pub fn tell<T: Recordable, C: LineCode>(
     println!(rt, "Reading group 1")?;
     read(rt, "as it was written", tape, code, group, bench, buffer)?;
     wear::wear_group(tape, [1, 40], buffer);
-    read(rt, "worn: every track scratched, tracks 1 and 40 blank", tape, code, group, bench, buffer)?;
+    read(
+        rt,
+        "worn: every track scratched, tracks 1 and 40 blank",
+        tape,
+        code,
+        group,
+        bench,
+        buffer,
+    )?;
     wear::copy_track(tape, 46 + 1, 1, buffer);
-    read(rt, "track 1 of group 2 in the place of track 1", tape, code, group, bench, buffer)?;
+    read(
+        rt,
+        "track 1 of group 2 in the place of track 1",
+        tape,
+        code,
+        group,
+        bench,
+        buffer,
+    )?;
     compose(OLD, group);
     write_old(rt, tape, code, group, bench, buffer)?;
     wear::copy_track(tape, 46 + 1, 1, buffer);
     println!(rt, "Reading group 1")?;
-    read(rt, "track 1 of the older recording in the place of track 1", tape, code, group, bench, buffer)
+    read(
+        rt,
+        "track 1 of the older recording in the place of track 1",
+        tape,
+        code,
+        group,
+        bench,
+        buffer,
+    )
 }

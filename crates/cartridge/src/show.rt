@@ -1,8 +1,8 @@
 use reading::fault::ReadFault;
-use reading::sheet::LossSheet;
-use std::io;
 use reading::fault::ReadFaultDebug;
 use reading::sheet::CauseDebug;
+use reading::sheet::LossSheet;
+use std::io;
 
 /// Prints the rows of the tracks that are lost, and how many were read.
 pub fn print_sheet(rt: &impl Print, sheet: &LossSheet) -> io::Result<()> {

@@ -1,6 +1,6 @@
+use tape::lent::LentPlayable;
 use tape::traits::Playable;
 use tape::traits::Recordable;
-use tape::lent::LentPlayable;
 
 /// A word that the example sheet has for no byte.
 const NO_BYTE: u16 = 1000;

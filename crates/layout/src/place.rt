@@ -2,7 +2,6 @@ ghost use mathlib.Core.Path.{_≡_};
 ghost use Prim.Native.Nat.{_%_, _<_};
 ghost use Rattle.layout.specs.Placing.{Places-fit, Bijection};
 ghost use Rattle.layout.specs.Placed.{placing, signOf};
-
 use crate::sign::Channel;
 use crate::sign::Half;
 use crate::sign::Sign;

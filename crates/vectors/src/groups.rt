@@ -1,26 +1,29 @@
 use channel::line::LineCode;
 use channel::plain::Plain;
+use channel::plain::PlainLine;
 use channel::sheet;
 use channel::sheet::CheckedSheet;
+use channel::sheet::CheckedSheetLine;
 use channel::sheet::RawSheet;
 use layout::settings::Settings;
 use std::io;
 use tape::packed_image::PackedImage;
+use tape::packed_image::PackedImagePlayable;
+use tape::packed_image::PackedImageRecordable;
 use tape::packed_image::STRIDE;
 use tape::traits::Playable;
 use tape::traits::WORDS;
 use writing::group;
-use channel::plain::PlainLine;
-use channel::sheet::CheckedSheetLine;
-use tape::packed_image::PackedImagePlayable;
-use tape::packed_image::PackedImageRecordable;
 
 // tools/tracks.py works out the same digests from the rules alone.
 
 /// The group: above 255, so that its labels carry another number.
 const NUMBER: u16 = 257;
 
-const SETTINGS: Settings = Settings { tap: 3, start: 12345 };
+const SETTINGS: Settings = Settings {
+    tap: 3,
+    start: 12345,
+};
 
 /// Bytes that look random.
 fn noise(bytes: &mut [u8]) {
@@ -95,7 +98,23 @@ pub fn run(rt: &LibcRuntime) -> io::Result<()> {
     let mut buffer = vec![in heap; 0u16; WORDS]?;
     let mut memory = vec![in heap; 0u8; 46 * NUMBER as usize * STRIDE]?;
     noise(group.as_mut_slice());
-    write(rt, "plain code", &Plain, group.as_slice(), memory.as_mut_slice(), bench.as_mut_slice(), buffer.as_mut_slice())?;
+    write(
+        rt,
+        "plain code",
+        &Plain,
+        group.as_slice(),
+        memory.as_mut_slice(),
+        bench.as_mut_slice(),
+        buffer.as_mut_slice(),
+    )?;
     let sheet = example_sheet();
-    write(rt, "sheet", &sheet, group.as_slice(), memory.as_mut_slice(), bench.as_mut_slice(), buffer.as_mut_slice())
+    write(
+        rt,
+        "sheet",
+        &sheet,
+        group.as_slice(),
+        memory.as_mut_slice(),
+        bench.as_mut_slice(),
+        buffer.as_mut_slice(),
+    )
 }

@@ -21,9 +21,9 @@ module _ (tap start : ℕ) (group bench rows rest : List ℕ) (split : bench ≡
       let l : length (rowIn rows t) ≡ 2912 = simp (length-take, length-drop) (omega arith) in
       listed-is (byteOf tap start group t) (rowIn rows t) 2912 l
       (λ q k.
-        let at : getD (rowIn rows t) q 0 ≡ getD rows (2912 * t + q) 0 = getD-take 2912 (drop (2912 * t) rows) q 0 k ∙ getD-drop (2912 * t) rows q 0 in
-        let p : 2912 * t + q < length rows = omega arith in
-        sym (has t q h k) ∙ ap (λ z. getD z (2912 * t + q) 0) split ∙ getD-append-left rows rest 0 (2912 * t + q) p ∙ sym at)
+      let at : getD (rowIn rows t) q 0 ≡ getD rows (2912 * t + q) 0 = getD-take 2912 (drop (2912 * t) rows) q 0 k ∙ getD-drop (2912 * t) rows q 0 in
+      let p : 2912 * t + q < length rows = omega arith in
+      sym (has t q h k) ∙ ap (λ z. getD z (2912 * t + q) 0) split ∙ getD-append-left rows rest 0 (2912 * t + q) p ∙ sym at)
 
   pub group-made : (c : Code) (g : ℕ) (ts us : List Track) → us ≡ withTracks (λ t. track c (address g t) (arrayOf (rowIn rows t))) g ts → us ≡ withGroup c tap start g group ts
   group-made c g ts us e =

@@ -28,8 +28,8 @@ module _ (xs : List ℕ) (x : Array) (same : (b s : ℕ) → b < 128 → s < 32 
   c1-of h l hh hl =
       listed-same (λ j. getD xs (64 * h + l + 2 * j) 0) (λ j. x (c1Block h j) (c1Serial l j)) 32
       (λ j k.
-        let e : 64 * h + l + 2 * j ≡ 32 * (2 * h + j / 16) + (l + 2 * (j % 16)) = omega arith in
-        ap (λ p. getD xs p 0) e ∙ same (2 * h + j / 16) (l + 2 * (j % 16)) (omega arith) (omega arith))
+      let e : 64 * h + l + 2 * j ≡ 32 * (2 * h + j / 16) + (l + 2 * (j % 16)) = omega arith in
+      ap (λ p. getD xs p 0) e ∙ same (2 * h + j / 16) (l + 2 * (j % 16)) (omega arith) (omega arith))
 
   c2-made : (b s : ℕ) → b < 128 → s < 32 → c2Filled xs (32 * b + s) ≡ withC2 x b s
   unfolding c2Filled withC2

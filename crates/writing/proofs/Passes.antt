@@ -38,15 +38,15 @@ pub same-interleaved : (xs ys : List ℕ) (start stride n : ℕ) → ((j : ℕ) 
 same-interleaved xs ys start stride n h =
     ext-getD 0 (interleaved xs start stride n) (interleaved ys start stride n) (length-interleaved xs start stride n ∙ sym (length-interleaved ys start stride n))
     (λ j l.
-      let k : j < n = subst (λ m. j < m) (length-interleaved xs start stride n) l in
-      getD-interleaved xs start stride n j k ∙ h j k ∙ sym (getD-interleaved ys start stride n j k))
+    let k : j < n = subst (λ m. j < m) (length-interleaved xs start stride n) l in
+    getD-interleaved xs start stride n j k ∙ h j k ∙ sym (getD-interleaved ys start stride n j k))
 
 bytes-interleaved : (xs : List ℕ) (start stride n : ℕ) → ((i : ℕ) → getD xs i 0 < 256) → Bytes (interleaved xs start stride n)
 bytes-interleaved xs start stride n h =
     all-from-getD (λ x. x < 256) (interleaved xs start stride n) 0
     (λ j l.
-      let k : j < n = subst (λ m. j < m) (length-interleaved xs start stride n) l in
-      subst (λ z. z < 256) (sym (getD-interleaved xs start stride n j k)) (h (start + stride * j)))
+    let k : j < n = subst (λ m. j < m) (length-interleaved xs start stride n) l in
+    subst (λ z. z < 256) (sym (getD-interleaved xs start stride n j k)) (h (start + stride * j)))
 
 -- the places below size are split into words: place p is byte pos p of its word, which begins at first p; word w begins at start w
 pub record Split (size many stride n : ℕ) (word pos first start : ℕ → ℕ) : Type 0 where
@@ -73,9 +73,9 @@ module _ (r : ℕ) (ps : List ℕ) (size many stride n : ℕ) (word pos first st
   fresh =
       same-interleaved zs xs (start w) stride n
       (λ j h.
-        let p : ℕ = start w + stride * j in
-        let e : word p ≡ w = split .back w j h within in
-        inv p (reach j h) ∙ cond-false (ltb (word p) w) _ (getD xs p 0) (le-ltb (word p) w (omega arith)))
+      let p : ℕ = start w + stride * j in
+      let e : word p ≡ w = split .back w j h within in
+      inv p (reach j h) ∙ cond-false (ltb (word p) w) _ (getD xs p 0) (le-ltb (word p) w (omega arith)))
 
   found : (u : List ℕ) → Bytes u → Filled r ps (interleaved zs (start w) stride n) u → filling r ps (interleaved xs (start w) stride n) ≡ Some u
   found u bu f =

@@ -6,7 +6,6 @@ ghost use lib.ListN.{getD, length};
 ghost use Rattle.layout.specs.Placing.{isOccupied};
 ghost use Rattle.layout.specs.Writing.{arrayOf};
 ghost use Rattle.writing.specs.Arrays.{arrayIn, numberOr, c2Filled, c1Filled};
-
 use reed_solomon::interleaved;
 
 /// How many bytes an array has.
@@ -17,6 +16,7 @@ pub const ROW: usize = 2912;
 
 /// The places of the check bytes in a C2 word, and in a C1 word.
 const C2_CHECKS: [usize; 6] = [18, 17, 16, 15, 14, 13];
+
 const C1_CHECKS: [usize; 4] = [31, 30, 29, 28];
 
 /// Gives every C2 word of the array its check bytes.

@@ -10,7 +10,6 @@ ghost use Rattle.layout.specs.Writing.{arrayOf};
 ghost use Rattle.writing.specs.Arrays.{numberOr};
 ghost use Rattle.writing.specs.Groups.{lent, reached, andThen, outcome, withTracks, withGroup};
 ghost use Rattle.writing.specs.Rows.{rowIn};
-
 use crate::array;
 use crate::fault::WriteFault;
 use crate::rows;
@@ -67,7 +66,16 @@ fn store_rows<T: Recordable, C: LineCode>(
     ensures tape { λ _. ⌜ T·Playable .tracks (now (tape .exit)) ≡ withTracks (λ t. track (codeOf (C·LineCode .encode (now (code .entry))) (C·LineCode .decode (now (code .entry)))) (address number t) (arrayOf (rowIn (now (rows .entry)) t))) number (T·Playable .tracks (now (tape .entry))) ⌝ }
 {
     for t in 0..46 {
-        store_track(tape, code, number, t, &rows[2912 * t..2912 * t + 2912], numbers, array, buffer);
+        store_track(
+            tape,
+            code,
+            number,
+            t,
+            &rows[2912 * t..2912 * t + 2912],
+            numbers,
+            array,
+            buffer,
+        );
     }
 }
 
@@ -99,7 +107,12 @@ fn store_group<T: Recordable, C: LineCode>(
 }
 
 /// Tests the lent memory and the settings.
-fn check_lent(buffer: usize, settings: Settings, group: usize, bench: usize) -> Result<(), WriteFault>
+fn check_lent(
+    buffer: usize,
+    settings: Settings,
+    group: usize,
+    bench: usize,
+) -> Result<(), WriteFault>
     ensures { λ r. ⌜ r ≡ lent buffer (settings .tap) (settings .start) group bench ⌝ }
 {
     if buffer != 4608 {

@@ -6,13 +6,13 @@ ghost use lib.Dec.{eqb};
 ghost use lib.ListN.{getD, length};
 ghost use Rattle.layout.specs.Words.{frameByte};
 ghost use Rattle.writing.specs.Rows.{padAt, dataIndex, plainAt, c3Filled, HasRows};
-
 use crate::array::ROW;
 use layout::register::next_byte;
 use reed_solomon::interleaved;
 
 /// How many bytes a group has, and each of its 22 sub-groups.
 pub const GROUP: usize = 126_632;
+
 pub const SUB_GROUP: usize = 5756;
 
 /// The places of the check bytes in a C3 word.
@@ -36,7 +36,11 @@ fn frame_byte(k: usize) -> u8
     requires { ⌜ k < 46 ⌝ }
     ensures { λ r. ⌜ r ≡ frameByte (k / 2 + 1) ⌝ }
 {
-    if k / 2 + 1 == 23 { 215 } else { (k / 2 + 1) as u8 }
+    if k / 2 + 1 == 23 {
+        215
+    } else {
+        (k / 2 + 1) as u8
+    }
 }
 
 /// The randomized data byte at number `q` of row `k`.
@@ -63,7 +67,11 @@ fn unchecked_byte(group: &[u8], pad: &[u8], k: usize, q: usize) -> u8
         return if q == 1 { frame_byte(k) } else { 0 };
     }
     if q < 2880 {
-        return if k < 44 { data_byte(group, pad, k, q) } else { 0 };
+        return if k < 44 {
+            data_byte(group, pad, k, q)
+        } else {
+            0
+        };
     }
     0
 }

@@ -5,7 +5,6 @@ ghost use Rattle.layout.specs.Group.{address};
 ghost use Rattle.layout.specs.Line.{codeOf, label, sync, track};
 ghost use Rattle.writing.specs.Arrays.{arrayIn};
 ghost use Rattle.writing.specs.Sending.{Sent};
-
 use channel::line::LineCode;
 use channel::state::State;
 
@@ -75,7 +74,13 @@ fn send_block<C: LineCode>(
 }
 
 /// Puts the words of the track of an array.
-pub(crate) fn send_track<C: LineCode>(code: &C, group: u16, t: usize, array: &[u8], words: &mut [u16])
+pub(crate) fn send_track<C: LineCode>(
+    code: &C,
+    group: u16,
+    t: usize,
+    array: &[u8],
+    words: &mut [u16],
+)
     requires { ⌜ t < 46 ⌝ }
     requires { ⌜ length (now array) ≡ 4096 ⌝ }
     requires { ⌜ length (now words) ≡ 4608 ⌝ }

@@ -10,7 +10,8 @@ unfolding steps
 loop-k-holds c = (refl, c .pre)
 
 pub loop-k-again : need.loop-k-again
-loop-k-again c =
-    ( c .step-register-after .ensures .is ∙ ap (step (c .args .tap)) (c .loop-k .inv .0) ∙ sym (steps-more (c .args .tap) (c .loop-k .k) (c .args .register))
-      ∙ ap (λ m. steps (c .args .tap) m (c .args .register)) (sym (add-one (c .loop-k .k)))
-    , c .step-register-after .ensures .below )
+loop-k-again c = (
+  c .step-register-after .ensures .is ∙ ap (step (c .args .tap)) (c .loop-k .inv .0) ∙ sym (steps-more (c .args .tap) (c .loop-k .k) (c .args .register))
+      ∙ ap (λ m. steps (c .args .tap) m (c .args .register)) (sym (add-one (c .loop-k .k))),
+  c .step-register-after .ensures .below,
+)

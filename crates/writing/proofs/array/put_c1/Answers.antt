@@ -18,8 +18,9 @@ fill-interleaved-requires c κs = (λ j h. omega (arith, c .loop-w .inv .0), lit
 pub loop-w-again : need.loop-w-again
 unfolding c1Filled c1Checks which
 loop-w-again c =
-    let b : (i : ℕ) → getD (c .loop-w .array) i 0 < 256 = λ i. search needs in
-    ( c .fill-interleaved .kept .memory ∙ c .loop-w .inv .0
-    , one-more 4 (31 ∷ 30 ∷ 29 ∷ 28 ∷ []) 4096 128 2 32 (λ p. 2 * (p / 64) + p % 2) (λ p. p % 64 / 2) (λ p. 64 * (p / 64) + p % 2) (λ w. 64 * (w / 2) + w % 2) c1-split (lit≤ tt) c1-places refl
-      (c .args .array .now) (c .loop-w .array) (c .fill-interleaved .last .memory) (c .loop-w .w) (c .loop-w-test .taken) (λ j h. omega arith) b (c .loop-w .inv .1)
-      (c .fill-interleaved .result) (c .fill-interleaved .ensures) )
+    let b : (i : ℕ) → getD (c .loop-w .array) i 0 < 256 = λ i. search needs in (
+      c .fill-interleaved .kept .memory ∙ c .loop-w .inv .0,
+      one-more 4 (31 ∷ 30 ∷ 29 ∷ 28 ∷ []) 4096 128 2 32 (λ p. 2 * (p / 64) + p % 2) (λ p. p % 64 / 2) (λ p. 64 * (p / 64) + p % 2) (λ w. 64 * (w / 2) + w % 2) c1-split (lit≤ tt) c1-places refl
+          (c .args .array .now) (c .loop-w .array) (c .fill-interleaved .last .memory) (c .loop-w .w) (c .loop-w-test .taken) (λ j h. omega arith) b (c .loop-w .inv .1)
+          (c .fill-interleaved .result) (c .fill-interleaved .ensures),
+    )

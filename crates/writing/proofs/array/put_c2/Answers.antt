@@ -18,8 +18,9 @@ fill-interleaved-requires c κs = (λ j h. omega (arith, c .loop-c .inv .0), lit
 pub loop-c-again : need.loop-c-again
 unfolding c2Filled c2Checks which
 loop-c-again c =
-    let b : (i : ℕ) → getD (c .loop-c .array) i 0 < 256 = λ i. search needs in
-    ( c .fill-interleaved .kept .memory ∙ c .loop-c .inv .0
-    , one-more 6 (18 ∷ 17 ∷ 16 ∷ 15 ∷ 14 ∷ 13 ∷ []) 4096 128 128 32 (λ p. p % 128) (λ p. p / 128) (λ p. p % 128) (λ w. w) c2-split (lit≤ tt) c2-places refl
-      (c .args .array .now) (c .loop-c .array) (c .fill-interleaved .last .memory) (c .loop-c .c) (c .loop-c-test .taken) (λ j h. omega arith) b (c .loop-c .inv .1)
-      (c .fill-interleaved .result) (c .fill-interleaved .ensures) )
+    let b : (i : ℕ) → getD (c .loop-c .array) i 0 < 256 = λ i. search needs in (
+      c .fill-interleaved .kept .memory ∙ c .loop-c .inv .0,
+      one-more 6 (18 ∷ 17 ∷ 16 ∷ 15 ∷ 14 ∷ 13 ∷ []) 4096 128 128 32 (λ p. p % 128) (λ p. p / 128) (λ p. p % 128) (λ w. w) c2-split (lit≤ tt) c2-places refl
+          (c .args .array .now) (c .loop-c .array) (c .fill-interleaved .last .memory) (c .loop-c .c) (c .loop-c-test .taken) (λ j h. omega arith) b (c .loop-c .inv .1)
+          (c .fill-interleaved .result) (c .fill-interleaved .ensures),
+    )

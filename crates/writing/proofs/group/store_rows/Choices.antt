@@ -11,7 +11,7 @@ use Rattle.writing.proofs.group.store_rows.Given as given
 abbrev pub Inv-loop-t : given.InvT-loop-t
 Inv-loop-t g l =
     TracksTo (λ t. track (codeOf (g .C·LineCode .encode (l .code)) (g .C·LineCode .decode (l .code))) (address (l .number) t) (arrayOf (rowIn (l .rows) t))) (46 * (l .number - 1))
-        (g .T·Playable .tracks (l .entry .tape)) (g .T·Playable .tracks (l .tape)) (l .t)
+    (g .T·Playable .tracks (l .entry .tape)) (g .T·Playable .tracks (l .tape)) (l .t)
     × (g .T·Recordable .rest (l .tape) ≡ g .T·Recordable .rest (l .entry .tape))
     × (length (l .array) ≡ 4096)
     × (length (l .buffer) ≡ 4608)

@@ -17,7 +17,8 @@ loop-d-again c =
     let s = c .args .start in
     let d = c .loop-d .d in
     let n : 8 * d + 8 ≡ 8 * (d + 1) = omega arith in
-    let v : c .next-byte-byte .result .0 ≡ padAt t s d = c .next-byte-byte .ensures .byte ∙ ap (output t 8) (c .loop-d .inv .0) in
-    ( c .next-byte-byte .ensures .next ∙ ap (steps t 8) (c .loop-d .inv .0) ∙ steps-add t 8 (8 * d) s ∙ ap (λ m. steps t m s) n
-    , c .next-byte-byte .ensures .below
-    , simp v (fill-by-more (padAt t s) (c .loop-d .pad) d 0 (omega arith) (c .loop-d .inv .2)) )
+    let v : c .next-byte-byte .result .0 ≡ padAt t s d = c .next-byte-byte .ensures .byte ∙ ap (output t 8) (c .loop-d .inv .0) in (
+      c .next-byte-byte .ensures .next ∙ ap (steps t 8) (c .loop-d .inv .0) ∙ steps-add t 8 (8 * d) s ∙ ap (λ m. steps t m s) n,
+      c .next-byte-byte .ensures .below,
+      simp v (fill-by-more (padAt t s) (c .loop-d .pad) d 0 (omega arith) (c .loop-d .inv .2)),
+    )

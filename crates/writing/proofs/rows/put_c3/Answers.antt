@@ -25,13 +25,14 @@ loop-w-again c =
     let b : (i : ℕ) → getD (c .loop-w .bench) i 0 < 256 = λ i. search needs in
     let w = c .loop-w .w in
     let e : w + 2 ≡ (w + 2) % 2912 = omega arith in
-    let l : w < 2912 = omega arith in
-    ( omega (arith, c .fill-interleaved .kept .memory, c .loop-w .inv .0)
-    , one-more 2 c3Checks 133952 2912 2912 46 (λ p. (p % 2912 + 2910) % 2912) (λ p. p / 2912) (λ p. p % 2912) (λ w. (w + 2) % 2912) c3-split (lit≤ tt) c3-places refl
-      (c .args .bench .now) (c .loop-w .bench) (c .fill-interleaved .last .memory) w l (λ j h. omega arith) b (c .loop-w .inv .1)
-      (c .fill-interleaved .result)
-      (subst (λ s. When (c .fill-interleaved .result) (Refilled 2 c3Checks (c .loop-w .bench) (c .fill-interleaved .last .memory) s 2912 46) (Unfilled 2 c3Checks (c .loop-w .bench) (c .fill-interleaved .last .memory) s 2912 46))
-      e (c .fill-interleaved .ensures)) )
+    let l : w < 2912 = omega arith in (
+      omega (arith, c .fill-interleaved .kept .memory, c .loop-w .inv .0),
+      one-more 2 c3Checks 133952 2912 2912 46 (λ p. (p % 2912 + 2910) % 2912) (λ p. p / 2912) (λ p. p % 2912) (λ w. (w + 2) % 2912) c3-split (lit≤ tt) c3-places refl
+          (c .args .bench .now) (c .loop-w .bench) (c .fill-interleaved .last .memory) w l (λ j h. omega arith) b (c .loop-w .inv .1)
+          (c .fill-interleaved .result)
+          (subst (λ s. When (c .fill-interleaved .result) (Refilled 2 c3Checks (c .loop-w .bench) (c .fill-interleaved .last .memory) s 2912 46) (Unfilled 2 c3Checks (c .loop-w .bench) (c .fill-interleaved .last .memory) s 2912 46))
+          e (c .fill-interleaved .ensures)),
+    )
 
 pub returns : need.returns
 unfolding c3Filled

@@ -10,9 +10,10 @@ use Rattle.writing.proofs.RowSteps.{rows-more}
 use Rattle.writing.proofs.rows.spread.Needs as need
 
 pub loop-k-again : need.loop-k-again
-loop-k-again c =
-    ( omega (arith, c .spread-row .kept .bench, c .loop-k .inv .0)
-    , rows-more (plainAt (c .args .group .now) (c .args .pad .now)) (c .loop-k .bench) (c .spread-row .last .bench) (c .loop-k .k) (c .loop-k .inv .1) (c .spread-row .ensures) )
+loop-k-again c = (
+  omega (arith, c .spread-row .kept .bench, c .loop-k .inv .0),
+  rows-more (plainAt (c .args .group .now) (c .args .pad .now)) (c .loop-k .bench) (c .spread-row .last .bench) (c .loop-k .k) (c .loop-k .inv .1) (c .spread-row .ensures),
+)
 
 pub returns : need.returns
 returns c = λ p h. c .loop-k .inv .1 p (omega arith)
