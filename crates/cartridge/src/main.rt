@@ -1,25 +1,36 @@
-//! One message on its way through the libraries: a code sheet is checked, the message protected and encoded, stored on
-//! a tape, spoiled, read back and mended, with what each decline along the way looks like.
-mod message;
+//! One group on a tape image: it is written, worn, read back, and then given a track of another group.
+mod group;
 mod sheets;
-mod tapes;
+mod show;
+mod wear;
 
 use channel::sheet::CheckedSheet;
 use channel::sheet::CheckedSheetLine;
-use std::error::AnyError;
+use std::io;
+use tape::packed_image::PackedImage;
+use tape::packed_image::PackedImageRecordable;
+use tape::packed_image::STRIDE;
+use tape::traits::WORDS;
 
-fn run(rt: &LibcRuntime) -> Result<(), AnyError> {
+fn run(rt: &LibcRuntime) -> io::Result<()> {
+    let heap = rt.alloc();
     let mut sheet = CheckedSheet::new();
     sheets::check_them(rt, &mut sheet)?;
-    let heap = rt.alloc();
-    let mut memory = vec![in heap; 0u8; 4 * tape::packed_image::STRIDE + 7]?;
-    let mut buffer = vec![in heap; 0u16; tape::traits::WORDS]?;
-    message::write(rt, &sheet, buffer.as_mut_slice())?;
-    tapes::store(rt, memory.as_mut_slice(), buffer.as_mut_slice())?;
-    tapes::spoil(rt, memory.as_mut_slice(), buffer.as_mut_slice())?;
-    message::read(rt, &sheet, buffer.as_slice())
+    let mut memory = vec![in heap; 0u8; 92 * STRIDE]?;
+    let mut buffer = vec![in heap; 0u16; WORDS]?;
+    let mut bench = vec![in heap; 0u8; 138_048]?;
+    let mut bytes = vec![in heap; 0u8; 126_632]?;
+    let mut tape = PackedImage {
+        memory: memory.as_mut_slice(),
+    };
+    let (bytes, bench, buffer) = (
+        bytes.as_mut_slice(),
+        bench.as_mut_slice(),
+        buffer.as_mut_slice(),
+    );
+    group::tell(rt, &mut tape, &sheet, bytes, bench, buffer)
 }
 
-fn main(rt: LibcRuntime) -> Result<(), AnyError> {
-    rt.report(run(&rt))
+fn main(rt: LibcRuntime) -> io::Result<()> {
+    run(&rt)
 }

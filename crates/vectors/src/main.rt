@@ -1,4 +1,5 @@
 //! Published vectors, and tables of cases that are run and compared.
+mod groups;
 mod lines;
 mod tapes;
 mod words;
@@ -8,5 +9,6 @@ use std::io;
 fn main(rt: LibcRuntime) -> io::Result<()> {
     words::run(&rt)?;
     lines::run(&rt)?;
-    tapes::run(&rt)
+    tapes::run(&rt)?;
+    groups::run(&rt)
 }

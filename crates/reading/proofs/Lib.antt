@@ -1,0 +1,12 @@
+pub mod Lists
+pub mod Marks
+pub mod Refills
+pub mod InOrder
+pub mod Causes
+pub mod WholeTrack
+pub mod Declines
+pub mod Firsts
+pub mod CrossWords
+pub mod Masks
+pub mod WholeGroup
+pub mod Standing

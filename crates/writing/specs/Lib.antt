@@ -1,0 +1,5 @@
+pub mod Arrays
+pub mod Faults
+pub mod Groups
+pub mod Rows
+pub mod Sending
