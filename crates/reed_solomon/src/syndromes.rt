@@ -33,67 +33,73 @@ pub(crate) fn evaluate(word: &[u8], e: usize) -> u8
     sum
 }
 
-/// The byte `x` times 2 to the power `e`, by a table for the few powers that the three codes use.
+/// The byte `x` times 2 to the power `e`, by the table for the few powers that the three codes use.
 fn times_power(x: u8, e: usize) -> u8
-    requires { ⌜ e < 255 ⌝ }
+    requires { ⌜ e < 6 ⌝ }
     ensures { λ r. ⌜ r ≡ gmul x (alpha e) ⌝ }
 {
-    if e < 6 {
-        TIMES[256 * e + x as usize]
-    } else {
-        field::multiply(x, field::exp(e))
-    }
+    TIMES[256 * e + x as usize]
 }
 
-/// One byte more of a word: each sum times its power of 2, and the byte added.
-fn advance(sums: &mut [u8], b: u8)
-    requires { ⌜ length (now sums) ≤ 255 ⌝ }
-    ensures { λ _. ⌜ ((e : ℕ) → e < length (now (sums .exit)) → getD (now (sums .exit)) e 0 ≡ bitXor (gmul (getD (now (sums .entry)) e 0) (alpha e)) b) ⌝ }
+/// The first six check sums of the word, in one pass over it.
+fn six_sums(word: &[u8]) -> [u8; 6]
+    ensures { λ r. ⌜ (length r ≡ 6) × ((e : ℕ) → e < 6 → getD r e 0 ≡ syndrome e (now (word .entry))) ⌝ }
 {
-    for e in 0..sums.len() {
-        sums[e] = times_power(sums[e], e) ^ b;
+    let (mut s0, mut s1, mut s2, mut s3, mut s4, mut s5) = (0, 0, 0, 0, 0, 0);
+    for b in word {
+        s0 = times_power(s0, 0) ^ *b;
+        s1 = times_power(s1, 1) ^ *b;
+        s2 = times_power(s2, 2) ^ *b;
+        s3 = times_power(s3, 3) ^ *b;
+        s4 = times_power(s4, 4) ^ *b;
+        s5 = times_power(s5, 5) ^ *b;
     }
+    [s0, s1, s2, s3, s4, s5]
 }
 
-/// The first check sums of the word, as many as there is room for, in one pass over it.
+/// The first check sums of the word, as many as there is room for.
 pub(crate) fn syndromes_into(word: &[u8], sums: &mut [u8])
-    requires { ⌜ length (now sums) ≤ 255 ⌝ }
     ensures { λ _. ⌜ ((e : ℕ) → e < length (now (sums .exit)) → getD (now (sums .exit)) e 0 ≡ syndrome e (now (word .entry))) ⌝ }
 {
-    sums.fill(0);
-    for b in word {
-        advance(sums, *b);
+    let six = six_sums(word);
+    for e in 0..sums.len() {
+        sums[e] = if e < 6 { six[e] } else { evaluate(word, e) };
     }
 }
 
-/// Whether all are 0.
-fn all_zero(sums: &[u8]) -> bool
-    ensures { λ a. ⌜ Decides a ((e : ℕ) → e < length (now (sums .entry)) → getD (now (sums .entry)) e 0 ≡ 0) ⌝ }
+/// Whether the first `few` check sums of the word are 0.
+fn first_vanish(word: &[u8], few: usize) -> bool
+    requires { ⌜ few ≤ 6 ⌝ }
+    ensures { λ a. ⌜ Decides a (Checks few (now (word .entry))) ⌝ }
 {
-    for s in sums {
-        if *s != 0 {
+    let six = six_sums(word);
+    for e in 0..few {
+        if six[e] != 0 {
             return false;
         }
     }
     true
 }
 
-/// Whether the first `r` check sums of the word are 0, with room for them.
-fn sums_vanish(word: &[u8], r: usize, sums: &mut [u8]) -> bool
-    requires { ⌜ length (now sums) ≡ r ⌝ }
-    requires { ⌜ r ≤ 255 ⌝ }
-    ensures { λ a. ⌜ Decides a (Checks r (now (word .entry))) ⌝ }
+/// Whether the check sums of the word from `k` on to `r` are 0.
+fn others_vanish(word: &[u8], k: usize, r: usize) -> bool
+    ensures { λ a. ⌜ Decides a ((e : ℕ) → k ≤ e → e < r → syndrome e (now (word .entry)) ≡ 0) ⌝ }
 {
-    syndromes_into(word, sums);
-    all_zero(sums)
+    for e in k..r {
+        if evaluate(word, e) != 0 {
+            return false;
+        }
+    }
+    true
 }
 
 /// Whether the first `r` check sums of the word are 0.
 pub fn checks(word: &[u8], r: usize) -> bool
     ensures { λ a. ⌜ Decides a (Checks r (now (word .entry))) ⌝ }
 {
+    if !first_vanish(word, r.min(6)) {
+        return false;
+    }
     // The check sums repeat after 255 exponents.
-    let few = r.min(255);
-    let mut sums = [0u8; 255];
-    sums_vanish(word, few, &mut sums[0..few])
+    others_vanish(word, 6, r.min(255))
 }

@@ -9,7 +9,6 @@ use Rattle.reed_solomon.specs.Steps.{vsum}
 use Rattle.reed_solomon.specs.Words.{syndrome, Distinct, Filled}
 use Rattle.reed_solomon.proofs.Distance.{filled, no-other, sums-agree}
 use Rattle.reed_solomon.proofs.Patches.{distinct-weights}
-use Rattle.reed_solomon.proofs.PlaceLists.{few-places}
 use Rattle.reed_solomon.proofs.Recursion.{bytes-from}
 use Rattle.reed_solomon.proofs.filling.fill_with.Needs as need
 
@@ -52,7 +51,3 @@ returns-else-agrees c =
           no-other (c .args .r) ps b vs (omega (arith, c .pre .0)) (c .pre .1) (c .pre .2) low (bytes-from b bb) (bytes-from vs bv)
           (λ high. bad (λ e g h. high e g h ∙ ap (λ x. vsum e x vs) (sym (c .weights .ensures))));
     }
-
-pub syndromes-into-requires : need.syndromes-into-requires
-syndromes-into-requires c κs =
-    omega (arith, few-places (length (c .args .word .now)) (c .args .lost .now) (c .pre .1 .within) (c .pre .1 .once), c .pre .0, c .pre .4)

@@ -4,6 +4,6 @@ use Rattle.reed_solomon.proofs.PowerTables.{products}
 use Rattle.reed_solomon.proofs.Powers.{products-at}
 use Rattle.reed_solomon.proofs.syndromes.times_power.Needs as need
 
-pub returns-then-e-lt6 : need.returns-then-e-lt6
+pub returns : need.returns
 unfolding products gmul gpow horner xtime
-returns-then-e-lt6 c = products-at (c .args .e) (c .args .x) (c .if-e-lt6 .taken) (search needs)
+returns c = products-at (c .args .e) (c .args .x) (c .pre) (search needs)
