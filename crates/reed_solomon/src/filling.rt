@@ -130,9 +130,22 @@ fn fill_with(word: &mut [u8], lost: &[usize], r: usize, xs: &mut [u8], vs: &mut 
     }
 }
 
-/// Gives the lost bytes the values with which the word checks to `r`, or leaves it as it is where
-/// there are none. For callers that know what they pass; `fill` tests it.
-pub fn fill_places(word: &mut [u8], lost: &[usize], r: usize) -> bool
+/// Fills up to six lost bytes, as many as the three codes ever have.
+fn fill_few(word: &mut [u8], lost: &[usize], r: usize) -> bool
+    requires { ⌜ length (now word) < 256 ⌝ }
+    requires { ⌜ Places (length (now word)) (now lost) ⌝ }
+    requires { ⌜ length (now lost) ≤ r ⌝ }
+    requires { ⌜ length (now lost) ≤ 6 ⌝ }
+    ensures { λ a. ⌜ When a (Filled r (now (lost .entry)) (now (word .entry)) (now (word .exit))) (Refused r (now (lost .entry)) (now (word .entry)) (now (word .exit))) ⌝ }
+{
+    let mut xs = [0u8; 6];
+    let mut vs = [0u8; 6];
+    let k = lost.len();
+    fill_with(word, lost, r, &mut xs[0..k], &mut vs[0..k])
+}
+
+/// Fills any number of lost bytes.
+fn fill_many(word: &mut [u8], lost: &[usize], r: usize) -> bool
     requires { ⌜ length (now word) < 256 ⌝ }
     requires { ⌜ Places (length (now word)) (now lost) ⌝ }
     requires { ⌜ length (now lost) ≤ r ⌝ }
@@ -142,6 +155,21 @@ pub fn fill_places(word: &mut [u8], lost: &[usize], r: usize) -> bool
     let mut vs = [0u8; 255];
     let k = lost.len();
     fill_with(word, lost, r, &mut xs[0..k], &mut vs[0..k])
+}
+
+/// Gives the lost bytes the values with which the word checks to `r`, or leaves it as it is where
+/// there are none. For callers that know what they pass; `fill` tests it.
+pub fn fill_places(word: &mut [u8], lost: &[usize], r: usize) -> bool
+    requires { ⌜ length (now word) < 256 ⌝ }
+    requires { ⌜ Places (length (now word)) (now lost) ⌝ }
+    requires { ⌜ length (now lost) ≤ r ⌝ }
+    ensures { λ a. ⌜ When a (Filled r (now (lost .entry)) (now (word .entry)) (now (word .exit))) (Refused r (now (lost .entry)) (now (word .entry)) (now (word .exit))) ⌝ }
+{
+    if lost.len() <= 6 {
+        fill_few(word, lost, r)
+    } else {
+        fill_many(word, lost, r)
+    }
 }
 
 /// Whether each of these is a place of a word of `n` bytes.

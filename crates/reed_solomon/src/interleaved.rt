@@ -7,6 +7,9 @@ ghost use lib.ListN.{getD, length};
 use crate::filling;
 use crate::syndromes;
 
+/// Words up to this length, all those of the three codes, are gathered in less memory.
+const SHORT: usize = 48;
+
 /// Takes a word that lies interleaved: byte j at `start + stride * j`.
 pub fn gather(memory: &[u8], start: usize, stride: usize, word: &mut [u8])
     requires { ⌜ Reaches (length (now memory)) start stride (length (now word)) ⌝ }
@@ -51,6 +54,10 @@ pub fn checks_interleaved(memory: &[u8], start: usize, stride: usize, n: usize, 
     requires { ⌜ n ≤ 255 ⌝ }
     ensures { λ a. ⌜ Decides a (Checks r (interleaved (now (memory .entry)) start stride n)) ⌝ }
 {
+    if n <= SHORT {
+        let mut word = [0u8; SHORT];
+        return gathered_checks(memory, start, stride, n, r, &mut word[0..n]);
+    }
     let mut word = [0u8; 255];
     gathered_checks(memory, start, stride, n, r, &mut word[0..n])
 }
@@ -96,6 +103,10 @@ pub fn fill_interleaved(
     requires { ⌜ length (now lost) ≤ r ⌝ }
     ensures { λ a. ⌜ When a (Refilled r (now (lost .entry)) (now (memory .entry)) (now (memory .exit)) start stride n) (Unfilled r (now (lost .entry)) (now (memory .entry)) (now (memory .exit)) start stride n) ⌝ }
 {
+    if n <= SHORT {
+        let mut word = [0u8; SHORT];
+        return gathered_fill(memory, start, stride, lost, r, &mut word[0..n]);
+    }
     let mut word = [0u8; 255];
     gathered_fill(memory, start, stride, lost, r, &mut word[0..n])
 }

@@ -3,7 +3,7 @@ use Prim.Native.Nat.{_≤_}
 use native.Mathlib.Omega.{arith}
 use lib.ListN.{length}
 use Rattle.reed_solomon.proofs.PlaceLists.{few-places}
-use Rattle.reed_solomon.proofs.filling.fill_places.Needs as need
+use Rattle.reed_solomon.proofs.filling.fill_many.Needs as need
 
 pub part-xs-end : need.part-xs-end
 part-xs-end c =
