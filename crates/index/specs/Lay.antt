@@ -2,7 +2,7 @@
 use mathlib.Core.Path.{_≡_}
 use mathlib.Core.Bool.{Bool, true, false, cond, _&&_}
 use mathlib.Core.List.{List, [], _∷_, _++_}
-use Prim.Native.Nat.{ℕ, zero, suc, _+_, _-_, _*_, _/_}
+use Prim.Native.Nat.{ℕ, zero, suc, _+_, _-_, _*_, _/_, _≤_}
 use lib.ListN.{length, take, drop}
 use lib.Dec.{eqb, ltb, leb}
 use Rattle.index.specs.declared.kind.Kind.{Kind}
@@ -114,3 +114,8 @@ pub record Finishes (s : Recording) : Type 0 where
   pub last : Entry
   pub is : s .open′ ≡ before ++ (last ∷ [])
   pub item : finishes (last .kind) ≡ 1
+
+-- any bound from the rest's length on lays the same
+abbrev pub BoundFree : Type 0
+BoundFree = (f h n : ℕ) (bs : List ℕ) (s : Recording) → 5 ≤ free s → 1 ≤ length bs → length bs ≤ f → length bs ≤ h
+    → layRest f n bs s ≡ layRest h n bs s

@@ -1,5 +1,6 @@
 ghost use Rattle.index.specs.Calls.{Faithful, Recorded, Predicted};
 ghost use Rattle.index.specs.Bytes.{Reread};
+ghost use Rattle.index.specs.Lay.{BoundFree};
 ghost use Rattle.index.specs.Settled.{Settled};
 
 /// After any calls, carried out or declined, the groups and the open group's entries give the list so far; a
@@ -22,6 +23,13 @@ pub fn bytes_stand() -> u8
 /// The index of a recording with no item, and of those with one record of a few lengths.
 pub fn settled_stand() -> u8
     ensures { λ _. ⌜ Settled ⌝ }
+{
+    0
+}
+
+/// However many groups the rest of a record may take, from as many as its bytes on, it is laid the same.
+pub fn rests_stand() -> u8
+    ensures { λ _. ⌜ BoundFree ⌝ }
 {
     0
 }
