@@ -5,3 +5,5 @@ pub mod Lay
 pub mod Bytes
 pub mod Calls
 pub mod Settled
+pub mod Contents
+pub mod Counted

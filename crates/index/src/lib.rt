@@ -1,6 +1,7 @@
 //! The index of a group: entries and a table behind the user bytes, how items are laid into groups, and how groups are
 //! walked.
 
+pub mod entry;
 pub mod fault;
 pub mod kind;
 pub mod laws;
