@@ -101,14 +101,14 @@ entry-back g p e at zs h f n d = λ i. record {
     bytes = ap (λ (x : Kind). cond (named x) (take (number 3 (e + 1) g) (drop at g)) []) k
         ∙ (ap₂ (λ (x : ℕ) (y : List ℕ). cond (named (p .kind)) (take x y) []) n d ∙ part-back p h zs)
 
-entries-back : (ps : List Entry) (g xs ys us vs : List ℕ) (i at : ℕ) → All Sound ps → g ≡ xs ++ (indexBytes ps ++ ys) → length xs + 4 * length ps + 4 * i ≡ 126600
+entries-back : (ps : List Entry) (g xs ys us vs : List ℕ) (i at : ℕ) → All Sound ps → g ≡ xs ++ (indexBytes ps ++ ys) → length xs + 4 * length ps ≡ i
     → g ≡ us ++ (userBytes ps ++ vs) → at ≡ length us → readEntries g (length ps) i at ≡ ps
 unfolding readEntries indexBytes userBytes
 entries-back [] g xs ys us vs i at s e n d a = refl
 entries-back (p ∷ ps) g xs ys us vs i at s e n d a =
     ap₂ (λ (x : Entry) (y : List Entry). x ∷ y) r
-    (ap (λ (x : Entry). readEntries g (length ps) (suc i) (at + length (x .bytes))) r
-    ∙ entries-back ps g xs (entryBytes p ++ ys) (us ++ p .bytes) vs (suc i) (at + length (p .bytes)) (s .1)
+    (ap (λ (x : Entry). readEntries g (length ps) (i - 4) (at + length (x .bytes))) r
+    ∙ entries-back ps g xs (entryBytes p ++ ys) (us ++ p .bytes) vs (i - 4) (at + length (p .bytes)) (s .1)
     (e ∙ ap (λ (l : List ℕ). xs ++ l) (append-assoc (indexBytes ps) (entryBytes p) ys))
     (omega arith)
     (d ∙ (ap (λ (l : List ℕ). us ++ l) (append-assoc (p .bytes) (userBytes ps) vs) ∙ sym (append-assoc us (p .bytes) (userBytes ps ++ vs))))
@@ -121,16 +121,16 @@ entries-back (p ∷ ps) g xs ys us vs i at s e n d a =
     at-front : g ≡ front ++ (entryBytes p ++ ys)
     at-front = e ∙ (ap (λ (l : List ℕ). xs ++ l) (append-assoc (indexBytes ps) (entryBytes p) ys) ∙ sym (append-assoc xs (indexBytes ps) (entryBytes p ++ ys)))
 
-    place : 126596 - 4 * i ≡ length front + 0
+    place : i - 4 ≡ length front + 0
     place = omega (arith, length-append xs (indexBytes ps), length-entries ps)
 
-    place₁ : 126596 - 4 * i + 1 ≡ length front + 1
+    place₁ : i - 4 + 1 ≡ length front + 1
     place₁ = omega (arith, length-append xs (indexBytes ps), length-entries ps)
 
-    r : readEntry g (126596 - 4 * i) at ≡ p
-    r = entry-back g p (126596 - 4 * i) at (userBytes ps ++ vs) (s .0)
-        (ap (λ (l : List ℕ). getD l (126596 - 4 * i) 0) at-front ∙ at-place front (entryBytes p ++ ys) (126596 - 4 * i) 0 place)
-        (ap (λ (l : List ℕ). number 3 (126596 - 4 * i + 1) l) at-front ∙ (number-behind 3 front (entryBytes p ++ ys) (126596 - 4 * i + 1) 1 place₁ ∙ count-back p (s .0) ys))
+    r : readEntry g (i - 4) at ≡ p
+    r = entry-back g p (i - 4) at (userBytes ps ++ vs) (s .0)
+        (ap (λ (l : List ℕ). getD l (i - 4) 0) at-front ∙ at-place front (entryBytes p ++ ys) (i - 4) 0 place)
+        (ap (λ (l : List ℕ). number 3 (i - 4 + 1) l) at-front ∙ (number-behind 3 front (entryBytes p ++ ys) (i - 4 + 1) 1 place₁ ∙ count-back p (s .0) ys))
         (ap₂ (λ (x : ℕ) (l : List ℕ). drop x l) a d ∙ (drop-append us _ ∙ append-assoc (p .bytes) (userBytes ps) vs))
 
 empty-behind : (n : ℕ) (xs ys : List ℕ) (i j : ℕ) → i ≡ length xs + j → empty (xs ++ ys) i n ≡ empty ys j n
@@ -197,7 +197,7 @@ module _ (g : Group) (h : Whole g) where
   before : List ℕ
   before = userBytes (g .entries) ++ zeros gap
 
-  length-before : length before + 4 * length (g .entries) + 4 * 0 ≡ 126600
+  length-before : length before + 4 * length (g .entries) ≡ 126600
   unfolding before gap
   length-before = omega (arith, length-append (userBytes (g .entries)) (zeros gap), length-bytes (g .entries), length-zeros gap, h .fits)
 
@@ -215,11 +215,11 @@ module _ (g : Group) (h : Whole g) where
   unfolding number
   entry-number = in-table 2 126602 2 refl ∙ two-back (length (g .entries)) few
 
-  all-entries : readEntries (groupOf g) (number 2 126602 (groupOf g)) 0 0 ≡ g .entries
+  all-entries : readEntries (groupOf g) (number 2 126602 (groupOf g)) 126600 0 ≡ g .entries
   unfolding groupOf
   all-entries =
-      ap (λ (n : ℕ). readEntries (groupOf g) n 0 0) entry-number
-      ∙ entries-back (g .entries) (groupOf g) before (tableBytes g) [] _ 0 0 (h .entries) at-entries length-before refl refl
+      ap (λ (n : ℕ). readEntries (groupOf g) n 126600 0) entry-number
+      ∙ entries-back (g .entries) (groupOf g) before (tableBytes g) [] _ 126600 0 (h .entries) at-entries length-before refl refl
 
   group-back : readGroup (groupOf g) ≡ g
   unfolding readGroup number empty zeros

@@ -80,10 +80,23 @@ entryWith k w n bs = record { kind = k; count = n; warned = w; bytes = cond (nam
 abbrev pub readEntry : List ℕ → ℕ → ℕ → Entry
 readEntry g e at = entryWith (kindOf (getD g e 0 - 8 * (getD g e 0 / 8 % 2))) (getD g e 0 / 8 % 2) (number 3 (e + 1) g) (drop at g)
 
--- k entries from entry i on (the first is 0), their bytes from place at on
+-- the entry in the last four bytes of an index, with the user bytes of group g from place at on that it names
+abbrev pub readAt : List ℕ → List ℕ → ℕ → Entry
+readAt xs g at =
+    entryWith (kindOf (getD xs (length xs - 4) 0 - 8 * (getD xs (length xs - 4) 0 / 8 % 2))) (getD xs (length xs - 4) 0 / 8 % 2)
+    (number 3 (length xs - 4 + 1) xs) (drop at g)
+
+-- the entry in the last four bytes of an index: its flag, its count, and the rest of the index
+pub record EntryTaken (xs : List ℕ) (f n : ℕ) (ys : List ℕ) : Type 0 where
+  pub long : 4 ≤ length xs
+  pub flag : f ≡ getD xs (length xs - 4) 0
+  pub count : n ≡ number 3 (length xs - 4 + 1) xs
+  pub rest : ys ≡ take (length xs - 4) xs
+
+-- k entries that end at place e, the first last, their user bytes from place at on
 unfoldable pub readEntries : List ℕ → ℕ → ℕ → ℕ → List Entry
-readEntries g zero i at = []
-readEntries g (suc k) i at = readEntry g (126596 - 4 * i) at ∷ readEntries g k (suc i) (at + length (readEntry g (126596 - 4 * i) at .bytes))
+readEntries g zero e at = []
+readEntries g (suc k) e at = readEntry g (e - 4) at ∷ readEntries g k (e - 4) (at + length (readEntry g (e - 4) at .bytes))
 
 -- n bytes from place i on are 0
 unfoldable pub empty : List ℕ → ℕ → ℕ → Bool
@@ -98,7 +111,7 @@ readGroup g = record {
   twos = number 4 126612 g;
   final = getD g 126616 0;
   padded = empty g 126617 15;
-  entries = readEntries g (number 2 126602 g) 0 0;
+  entries = readEntries g (number 2 126602 g) 126600 0;
 }
 
 -- bytes

@@ -4,6 +4,8 @@ use Prim.Native.Nat.{ℕ}
 use denote.Ref.{now}
 use Rattle.index.specs.declared.kind.Kind.{Kind}
 use Rattle.index.specs.declared.kind.Kind.the-variants.{Total, Mark, Middle, Start, Last, Entire, Skip, Unknown}
+use Rattle.index.specs.Entries.{Entry}
+use Rattle.index.specs.declared.entry.IndexEntry.{IndexEntry}
 use Rattle.index.specs.declared.entry.Content.{Content}
 use Rattle.index.specs.declared.entry.Content.the-variants.{Total as TotalIn, Mark as MarkIn, Middle as MiddleIn, Start as StartIn, Last as LastIn, Entire as EntireIn, Skip as SkipIn, Unknown as UnknownIn}
 
@@ -39,3 +41,7 @@ placeIn (LastIn p) = p .place
 placeIn (EntireIn p) = p .place
 placeIn SkipIn = 0
 placeIn UnknownIn = 0
+
+-- the entry that is meant
+abbrev pub meant : IndexEntry → Entry
+meant e = record { kind = kindIn (e .content); count = e .count; warned = e .warned; bytes = bytesIn (e .content) }

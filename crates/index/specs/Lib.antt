@@ -7,3 +7,4 @@ pub mod Calls
 pub mod Settled
 pub mod Contents
 pub mod Counted
+pub mod Cursors

@@ -1,10 +1,10 @@
 ghost use mathlib.Core.Path.{_≡_};
 ghost use mathlib.Core.Bool.{cond};
 ghost use mathlib.Core.List.{[]};
-ghost use Prim.Native.Nat.{ℕ, _-_, _+_, _<_};
-ghost use lib.ListN.{length, getD, take};
+ghost use Prim.Native.Nat.{_<_};
+ghost use lib.ListN.{length};
 ghost use Rattle.std.specs.Options.{Cases as BySome};
-ghost use Rattle.index.specs.Bytes.{named, number};
+ghost use Rattle.index.specs.Bytes.{named, EntryTaken};
 ghost use Rattle.index.specs.Contents.{kindIn, bytesIn, placeIn};
 use crate::kind::Kind;
 
@@ -28,9 +28,17 @@ pub enum Content<'a> {
     Unknown,
 }
 
+/// An entry: 1 after a warning and else 0, the count, and what it is.
+#[derive(Clone, Copy)]
+pub struct IndexEntry<'a> {
+    pub warned: u8,
+    pub count: u32,
+    pub content: Content<'a>,
+}
+
 impl<'a> Content<'a> {
     /// The content of an entry of a kind that names this part, if its kind names one.
-    fn new(kind: Kind, part: Part<'a>) -> Content<'a>
+    pub fn new(kind: Kind, part: Part<'a>) -> Content<'a>
         ensures kind { λ r. ⌜ kindIn r ≡ kind ⌝ }
         ensures bytes { λ r. ⌜ bytesIn r ≡ cond (named kind) (now (part .entry .bytes)) [] ⌝ }
         ensures place { λ r. ⌜ placeIn r ≡ cond (named kind) (part .entry .place) 0 ⌝ }
@@ -78,8 +86,8 @@ impl<'a> Content<'a> {
 }
 
 /// The flag and the count of the last four bytes of an index, and the rest of it; none where it has fewer.
-fn take_entry(index: &[u8]) -> Option<(u8, u32, &[u8])>
-    ensures { λ r. ⌜ BySome r (length (now (index .entry)) < 4) (λ x. (x .0 ≡ getD (now (index .entry)) (length (now (index .entry)) - 4) 0) × (x .1 ≡ number 3 (length (now (index .entry)) - 4 + 1) (now (index .entry))) × (now (x .2) ≡ take (length (now (index .entry)) - 4) (now (index .entry)))) ⌝ }
+pub fn take_entry(index: &[u8]) -> Option<(u8, u32, &[u8])>
+    ensures { λ r. ⌜ BySome r (length (now (index .entry)) < 4) (λ x. EntryTaken (now (index .entry)) (x .0) (x .1) (now (x .2))) ⌝ }
 {
     let [rest @ .., flag, high, middle, low] = index else {
         return None;

@@ -5,4 +5,5 @@ pub mod entry;
 pub mod fault;
 pub mod kind;
 pub mod laws;
+pub mod reader;
 pub mod succession;

@@ -1,0 +1,38 @@
+-- Going through the entries of an index.
+use mathlib.Core.Bool.{Bool, cond, _&&_}
+use mathlib.Core.List.{List}
+use Prim.Native.Nat.{ℕ, _+_, _-_}
+use lib.ListN.{length, take}
+use lib.Dec.{ltb, leb}
+use denote.Ref.{now}
+use Rattle.index.specs.declared.reader.IndexReader.{IndexReader}
+use Rattle.index.specs.Entries.{Entry}
+use Rattle.index.specs.Bytes.{readAt}
+
+-- what a reader of an index holds: the group, the bytes before the entries that were read, how many entries are left,
+-- and the place of the next user byte
+pub record Cursor : Type 0 where
+  pub group : List ℕ
+  pub index : List ℕ
+  pub left : ℕ
+  pub place : ℕ
+
+abbrev pub cursorOf : IndexReader → Cursor
+cursorOf r = record { group = now (r .group); index = now (r .index); left = r .left; place = r .place }
+
+-- an entry is left
+abbrev pub ahead : Cursor → Bool
+ahead c = ltb 0 (c .left) && leb 4 (length (c .index))
+
+-- the next entry
+abbrev pub coming : Cursor → Entry
+coming c = readAt (c .index) (c .group) (c .place)
+
+-- behind the next entry
+abbrev pub advanced : Cursor → Cursor
+advanced c = record {
+  group = c .group;
+  index = take (length (c .index) - 4) (c .index);
+  left = c .left - 1;
+  place = c .place + length (coming c .bytes);
+}
