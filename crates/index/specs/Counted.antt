@@ -7,11 +7,12 @@ use lib.ListN.{length}
 use lib.Dec.{eqb, ltb, leb}
 use Rattle.std.specs.declared.result.Result.{Result}
 use Rattle.std.specs.declared.result.Result.the-variants.{Ok, Err}
+use Rattle.index.specs.declared.kind.Kind.{Kind}
 use Rattle.index.specs.declared.fault.IndexFault.{IndexFault}
 use Rattle.index.specs.declared.fault.IndexFault.the-variants.{GroupNumber, EntryCount, LastByte, TableZeros, Flag, Succession, Count, Totals, OpenRecord}
 use Rattle.index.specs.declared.succession.State.{State}
-use Rattle.index.specs.declared.succession.Counts.{Counts}
-use Rattle.index.specs.declared.succession.Tally.{Tally}
+use Rattle.index.specs.declared.tally.Counts.{Counts}
+use Rattle.index.specs.declared.tally.Tally.{Tally}
 use Rattle.index.specs.Entries.{Entry, Item, Group, finishes, marks}
 use Rattle.index.specs.Succession.{known, permits, ends, ended, moved, partsSum, countFits}
 use Rattle.index.specs.Walk.{Walk, Between, stateOf, ofKind, next, none, leftOpen}
@@ -21,11 +22,11 @@ abbrev pub countsOf : List Item → Counts
 countsOf l = record { items = length l; ones = ofKind 1 l; twos = ofKind 2 l }
 
 -- these numbers after an entry
-abbrev pub counted : Counts → Entry → Counts
-counted c p = record {
-  items = c .items + finishes (p .kind);
-  ones = c .ones + cond (marks (p .kind) && eqb (p .count) 0) 1 0;
-  twos = c .twos + cond (marks (p .kind) && eqb (p .count) 1) 1 0;
+abbrev pub counted : Counts → Kind → ℕ → Counts
+counted c k n = record {
+  items = c .items + finishes k;
+  ones = c .ones + cond (marks k && eqb n 0) 1 0;
+  twos = c .twos + cond (marks k && eqb n 1) 1 0;
 }
 
 -- a walk within a group, by numbers
@@ -38,7 +39,7 @@ stepped limit i t p =
     cond (known (p .kind))
     (cond (permits (t .state) (p .kind))
     (cond (countFits limit (t .used) (partsSum (t .state)) (p .count) (p .kind))
-    (Ok (record { state = moved (t .state) (p .kind) (length (p .bytes)) (p .warned); used = t .used + length (p .bytes); counts = counted (t .counts) p }))
+    (Ok (record { state = moved (t .state) (p .kind) (length (p .bytes)) (p .warned); used = t .used + length (p .bytes); counts = counted (t .counts) (p .kind) (p .count) }))
     (Err (Count i)))
     (Err (Succession i)))
     (Err (Flag i))

@@ -1,5 +1,6 @@
 ghost use mathlib.Core.Path.{_≡_};
 ghost use Rattle.index.specs.Bytes.{kindOf, flagOf};
+ghost use Rattle.index.specs.Succession.{known};
 
 /// What an entry of an index is, by its flag.
 #[derive(Clone, Copy, PartialEq, Eq, Debug)]
@@ -52,6 +53,16 @@ impl Kind {
             Kind::Entire => 0x63,
             Kind::Skip => 0x80,
             Kind::Unknown => 0,
+        }
+    }
+
+    /// Whether the flag has a meaning.
+    pub fn is_known(self) -> bool
+        ensures { λ r. ⌜ r ≡ known self ⌝ }
+    {
+        match self {
+            Kind::Unknown => false,
+            _ => true,
         }
     }
 }

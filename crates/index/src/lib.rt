@@ -7,3 +7,4 @@ pub mod kind;
 pub mod laws;
 pub mod reader;
 pub mod succession;
+pub mod tally;
