@@ -1,11 +1,13 @@
 -- Numbers of several bytes, as the code puts them together.
 use mathlib.Core.Path.{_≡_, refl, sym, ap, _∙_}
-use mathlib.Core.Bool.{Bool, true, false, cond}
+use mathlib.Core.Bool.{Bool, true, false, cond, _&&_}
+use mathlib.Core.Logic.{_≢_}
 use mathlib.Core.List.{List, []}
 use Prim.Native.Nat.{ℕ, zero, suc, _+_, _-_, _*_, _^_, _≤_, _<_}
 use native.Mathlib.Omega.{arith}
 use lib.ListN.{length, take, drop, getD, length-take, length-drop}
-use Rattle.index.specs.Bytes.{number}
+use Rattle.index.specs.Bytes.{number, empty}
+use Rattle.std.proofs.shelf.Tests.{eq-eqb, ne-eqb}
 
 pub number-two : (xs : List ℕ) (i : ℕ) → getD xs i 0 * 256 + getD xs (i + 1) 0 ≡ number 2 i xs
 unfolding number
@@ -39,3 +41,17 @@ pub place-fits : (g : List ℕ) (place n : ℕ) (b : Bool) → place < 2 ^ 64 �
     → place + length (cond b (take n (drop place g)) []) < 2 ^ 64
 place-fits g place n true p l = omega (arith, length-take n (drop place g), length-drop place g)
 place-fits g place n false p l = omega arith
+
+-- one byte more of those that should be 0
+pub empty-more : (g : List ℕ) (i n m : ℕ) → n ≡ suc m → getD g i 0 ≡ 0 → empty g i n ≡ empty g (i + 1) m
+unfolding empty
+empty-more g i n m e z =
+    ap (empty g i) e ∙ (ap (λ (b : Bool). b && empty g (suc i) m) (eq-eqb (getD g i 0) 0 z) ∙ ap (λ (j : ℕ). empty g j m) (omega arith))
+
+pub empty-not : (g : List ℕ) (i n m : ℕ) → n ≡ suc m → getD g i 0 ≢ 0 → empty g i n ≡ false
+unfolding empty
+empty-not g i n m e z = ap (empty g i) e ∙ ap (λ (b : Bool). b && empty g (suc i) m) (ne-eqb (getD g i 0) 0 z)
+
+pub empty-none : (g : List ℕ) (i n : ℕ) → n ≡ 0 → empty g i n ≡ true
+unfolding empty
+empty-none g i n e = ap (empty g i) e

@@ -1,13 +1,14 @@
 -- Going through the entries of an index.
 use mathlib.Core.Bool.{Bool, cond, _&&_}
 use mathlib.Core.List.{List}
-use Prim.Native.Nat.{ℕ, _+_, _-_}
+use mathlib.Core.Path.{_≡_}
+use Prim.Native.Nat.{ℕ, _+_, _-_, _*_, _≤_}
 use lib.ListN.{length, take}
 use lib.Dec.{ltb, leb}
 use denote.Ref.{now}
 use Rattle.index.specs.declared.reader.IndexReader.{IndexReader}
 use Rattle.index.specs.Entries.{Entry}
-use Rattle.index.specs.Bytes.{readAt}
+use Rattle.index.specs.Bytes.{number, readAt, readEntries}
 
 -- what a reader of an index holds: the group, the bytes before the entries that were read, how many entries are left,
 -- and the place of the next user byte
@@ -19,6 +20,22 @@ pub record Cursor : Type 0 where
 
 abbrev pub cursorOf : IndexReader → Cursor
 cursorOf r = record { group = now (r .group); index = now (r .index); left = r .left; place = r .place }
+
+-- at the first entry of a group
+abbrev pub started : List ℕ → Cursor
+started g = record { group = g; index = take 126600 g; left = number 2 126602 g; place = 0 }
+
+-- the entries that are left
+abbrev pub remaining : Cursor → List Entry
+remaining c = readEntries (c .group) (c .left) (length (c .index)) (c .place)
+
+-- the index is a front of the group, and has room for the entries that are left; what was passed lies in the group
+pub record Sound (c : Cursor) : Type 0 where
+  pub size : length (c .group) ≡ 126632
+  pub front : c .index ≡ take (length (c .index)) (c .group)
+  pub long : length (c .index) ≤ 126600
+  pub room : 4 * c .left ≤ length (c .index)
+  pub place : c .place ≤ 126632
 
 -- an entry is left
 abbrev pub ahead : Cursor → Bool

@@ -1,5 +1,6 @@
 ghost use Rattle.index.specs.Calls.{Faithful, Recorded, Predicted};
 ghost use Rattle.index.specs.Bytes.{Reread};
+ghost use Rattle.index.specs.Counted.{Agreed};
 ghost use Rattle.index.specs.Lay.{BoundFree};
 ghost use Rattle.index.specs.Settled.{Settled};
 
@@ -30,6 +31,13 @@ pub fn settled_stand() -> u8
 /// However many groups the rest of a record may take, from as many as its bytes on, it is laid the same.
 pub fn rests_stand() -> u8
     ensures { λ _. ⌜ BoundFree ⌝ }
+{
+    0
+}
+
+/// Walking a group by numbers alone gives the state and the numbers of walking it, and the same fault.
+pub fn numbers_stand() -> u8
+    ensures { λ _. ⌜ Agreed ⌝ }
 {
     0
 }

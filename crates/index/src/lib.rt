@@ -7,4 +7,5 @@ pub mod kind;
 pub mod laws;
 pub mod reader;
 pub mod succession;
+pub mod table;
 pub mod tally;

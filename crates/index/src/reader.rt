@@ -1,21 +1,25 @@
 ghost use mathlib.Core.Path.{_≡_};
 ghost use mathlib.Core.Bool.{true, false, cond};
-ghost use lib.ListN.{take, drop};
+ghost use lib.ListN.{length, take, drop};
 ghost use Rattle.std.specs.Options.{Cases as BySome};
 ghost use Rattle.index.specs.Bytes.{named};
 ghost use Rattle.index.specs.Contents.{meant, placeIn, kindIn};
-ghost use Rattle.index.specs.Cursors.{cursorOf, ahead, coming, advanced};
+ghost use Rattle.index.specs.Cursors.{cursorOf, started, ahead, coming, advanced};
 use crate::entry::Content;
 use crate::entry::IndexEntry;
 use crate::entry::Part;
 use crate::entry::take_entry;
 use crate::kind::Kind;
+use crate::table::u16_at;
 
 /// The bytes of a group.
 pub const GROUP_BYTES: usize = 126632;
 
 /// The place of a group's table.
 pub const TABLE: usize = 126600;
+
+/// The place of the number of entries in a group's table.
+const ENTRY_COUNT: usize = 126602;
 
 /// Goes through the entries of a group's index from the first on.
 #[derive(Clone, Copy)]
@@ -39,6 +43,25 @@ fn part_at<'a>(group: &'a [u8], place: usize, count: u32) -> &'a [u8]
 }
 
 impl<'a> IndexReader<'a> {
+    /// A reader at the first entry; none where the group does not have 126,632 bytes.
+    pub fn new(group: &'a [u8]) -> Option<IndexReader<'a>>
+        ensures { λ r. ⌜ BySome r (length (now (group .entry)) ≡ 126632 → ⊥) (λ x. (length (now (group .entry)) ≡ 126632) × (cursorOf x ≡ started (now (group .entry)))) ⌝ }
+    {
+        if group.len() != GROUP_BYTES {
+            return None;
+        }
+        let index = &group[0..TABLE];
+        let left = u16_at(group, ENTRY_COUNT);
+        Some(IndexReader { group, index, left, place: 0 })
+    }
+
+    /// How many entries are left.
+    pub fn left(&self) -> u16
+        ensures { λ r. ⌜ r ≡ now (self .entry) .left ⌝ }
+    {
+        self.left
+    }
+
     /// The next entry with the part that it names, or none behind the last.
     pub fn next(&mut self) -> Option<IndexEntry<'a>>
         ensures answer { λ r. ⌜ BySome r (ahead (cursorOf (now (self .entry))) ≡ false) (λ e. (ahead (cursorOf (now (self .entry))) ≡ true) × (meant e ≡ coming (cursorOf (now (self .entry)))) × (placeIn (e .content) ≡ cond (named (kindIn (e .content))) (now (self .entry) .place) 0)) ⌝ }
