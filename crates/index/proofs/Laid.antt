@@ -62,7 +62,7 @@ laid-sound (putting {s = s} p i f o h) = all-snoc Sound (s .open′) p (laid-sou
 laid-sound (completing i c) = tt
 laid-sound (warming i) = laid-sound i
 
-finishes-few : (k : Kind) → finishes k ≤ 1
+pub finishes-few : (k : Kind) → finishes k ≤ 1
 finishes-few Total = omega arith
 finishes-few Mark = omega arith
 finishes-few Middle = omega arith
@@ -72,7 +72,7 @@ finishes-few Entire = omega arith
 finishes-few Skip = omega arith
 finishes-few Unknown = omega arith
 
-cond-few : (b : Bool) → _≤_ (cond b 1 0) 1
+pub cond-few : (b : Bool) → _≤_ (cond b 1 0) 1
 cond-few true = omega arith
 cond-few false = omega arith
 

@@ -131,3 +131,19 @@ pub record Small (t : Tally) : Type 0 where
   pub items : t .counts .items < 2 ^ 32 - 1
   pub ones : t .counts .ones < 2 ^ 32 - 1
   pub twos : t .counts .twos < 2 ^ 32 - 1
+
+-- a tally after an entry that names n bytes
+pub record Grown (t u : Tally) (n : ℕ) : Type 0 where
+  pub sum : partsSum (u .state) ≤ partsSum (t .state) + n
+  pub used : u .used ≡ t .used + n
+  pub items : u .counts .items ≤ t .counts .items + 1
+  pub ones : u .counts .ones ≤ t .counts .ones + 1
+  pub twos : u .counts .twos ≤ t .counts .twos + 1
+
+-- a tally at a group's opening, with numbers far from the limits of their types
+pub record Starts (t : Tally) (place : ℕ) : Type 0 where
+  pub sum : partsSum (t .state) < 2 ^ 62
+  pub used : t .used ≡ place
+  pub items : t .counts .items < 2 ^ 31
+  pub ones : t .counts .ones < 2 ^ 31
+  pub twos : t .counts .twos < 2 ^ 31

@@ -9,3 +9,4 @@ pub mod reader;
 pub mod succession;
 pub mod table;
 pub mod tally;
+pub mod walk;
