@@ -12,7 +12,7 @@ use Rattle.index.specs.declared.kind.Kind.{Kind}
 use Rattle.index.specs.Entries.{Entry}
 use Rattle.index.specs.Bytes.{kindOf, named, number, entryWith, readEntry, readAt, readEntries, EntryTaken}
 use Rattle.index.specs.Walk.{none}
-use Rattle.index.specs.Cursors.{Cursor, Sound, started, remaining, ahead, coming, advanced}
+use Rattle.index.specs.Cursors.{Cursor, Sound, startedWith, remaining, ahead, coming, advanced}
 
 module _ (c : Cursor) (flag count : ℕ) (rest : List ℕ) (h : EntryTaken (c .index) flag count rest) where
   pub there : 0 < c .left → ahead c ≡ true
@@ -98,8 +98,8 @@ none-remaining c = go (c .left)
     go zero = refl
     go (suc k) = sym (ne-eqb (suc k) 0 (λ e. omega arith))
 
-pub started-sound : (g : List ℕ) → length g ≡ 126632 → number 2 126602 g ≤ 31650 → Sound (started g)
-started-sound g l h =
+pub started-sound : (k : ℕ) (g : List ℕ) → length g ≡ 126632 → k ≤ 31650 → Sound (startedWith k g)
+started-sound k g l h =
     let n = length-take-le 126600 g (omega arith) in
     record {
       size = l;

@@ -78,3 +78,23 @@ stepped-grown limit i t u p = go (known (p .kind)) (permits (t .state) (p .kind)
     go true false c e = bad (Succession i) e
     go true true false e = bad (Count i) e
     go true true true e = subst (λ (x : Tally). Grown t x (length (p .bytes))) (same v e) grown
+
+pub closed-kept : (limit i : ℕ) (t u : Tally) (p : Entry) → closed limit i t p ≡ Ok u → (partsSum (u .state) ≡ partsSum (t .state)) × (u .counts ≡ t .counts)
+closed-kept limit i t u p = go (known (p .kind)) (ends (t .state) (p .kind)) (countFits limit (t .used) (partsSum (t .state)) (p .count) (p .kind))
+  where
+    v : Tally
+    v = record { state = ended (t .state); used = t .used; counts = t .counts }
+
+    bad : (x : IndexFault) → _≡_ {A = Result Tally IndexFault} (Err x) (Ok u) → (partsSum (u .state) ≡ partsSum (t .state)) × (u .counts ≡ t .counts)
+    bad x e = let z : _≡_ {A = ℕ} 0 1 = cc in absurd (omega arith)
+
+    same : (x : Tally) → _≡_ {A = Result Tally IndexFault} (Ok x) (Ok u) → u ≡ x
+    same x e = cc
+
+    go : (a b c : Bool) → cond a (cond b (cond c (Ok v) (Err (Count i))) (Err (Succession i))) (Err (Flag i)) ≡ Ok u
+        → (partsSum (u .state) ≡ partsSum (t .state)) × (u .counts ≡ t .counts)
+    go false b c e = bad (Flag i) e
+    go true false c e = bad (Succession i) e
+    go true true false e = bad (Count i) e
+    go true true true e =
+        (ap (λ (x : Tally). partsSum (x .state)) (same v e) ∙ ended-sum (t .state), ap (λ (x : Tally). x .counts) (same v e))

@@ -21,9 +21,13 @@ pub record Cursor : Type 0 where
 abbrev pub cursorOf : IndexReader → Cursor
 cursorOf r = record { group = now (r .group); index = now (r .index); left = r .left; place = r .place }
 
--- at the first entry of a group
+-- at the first of so many entries of a group
+abbrev pub startedWith : ℕ → List ℕ → Cursor
+startedWith k g = record { group = g; index = take 126600 g; left = k; place = 0 }
+
+-- at the first of as many entries as the table says
 abbrev pub started : List ℕ → Cursor
-started g = record { group = g; index = take 126600 g; left = number 2 126602 g; place = 0 }
+started g = startedWith (number 2 126602 g) g
 
 -- the entries that are left
 abbrev pub remaining : Cursor → List Entry

@@ -8,3 +8,5 @@ pub mod Settled
 pub mod Contents
 pub mod Counted
 pub mod Cursors
+pub mod Faults
+pub mod Answers

@@ -4,7 +4,7 @@ ghost use lib.ListN.{length, take, drop};
 ghost use Rattle.std.specs.Options.{Cases as BySome};
 ghost use Rattle.index.specs.Bytes.{named};
 ghost use Rattle.index.specs.Contents.{meant, placeIn, kindIn};
-ghost use Rattle.index.specs.Cursors.{cursorOf, started, ahead, coming, advanced};
+ghost use Rattle.index.specs.Cursors.{cursorOf, started, startedWith, ahead, coming, advanced};
 use crate::entry::Content;
 use crate::entry::IndexEntry;
 use crate::entry::Part;
@@ -50,9 +50,15 @@ impl<'a> IndexReader<'a> {
         if group.len() != GROUP_BYTES {
             return None;
         }
-        let index = &group[0..TABLE];
-        let left = u16_at(group, ENTRY_COUNT);
-        Some(IndexReader { group, index, left, place: 0 })
+        Some(IndexReader::over(group, u16_at(group, ENTRY_COUNT)))
+    }
+
+    /// A reader at the first of so many entries.
+    pub(crate) fn over(group: &'a [u8], left: u16) -> IndexReader<'a>
+        requires { ⌜ length (now group) ≡ 126632 ⌝ }
+        ensures { λ r. ⌜ cursorOf r ≡ startedWith left (now (group .entry)) ⌝ }
+    {
+        IndexReader { group, index: &group[0..TABLE], left, place: 0 }
     }
 
     /// How many entries are left.

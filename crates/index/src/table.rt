@@ -2,9 +2,11 @@ ghost use mathlib.Core.Path.{_≡_};
 ghost use Prim.Native.Nat.{ℕ, _+_, _<_, _≤_};
 ghost use lib.ListN.{length};
 ghost use Rattle.index.specs.Bytes.{number, empty};
-ghost use Rattle.index.specs.Counted.{tableIn, tableChecked};
+ghost use Rattle.index.specs.Counted.{tableIn, tableChecked, totalsChecked};
 use crate::fault::IndexFault;
 use crate::tally::Counts;
+use crate::tally::CountsPartialEq;
+use crate::tally::Tally;
 
 /// The table of a group.
 #[derive(Clone, Copy)]
@@ -84,5 +86,18 @@ impl Table {
             return Err(IndexFault::LastByte);
         }
         if self.zeros { Ok(()) } else { Err(IndexFault::TableZeros) }
+    }
+
+    /// The table's totals against those of the entries, and then an open record.
+    pub fn settle(self, tally: Tally) -> Result<Tally, IndexFault>
+        ensures { λ r. ⌜ r ≡ totalsChecked self tally ⌝ }
+    {
+        if self.counts != tally.counts {
+            return Err(IndexFault::Totals);
+        }
+        if self.last == 1 && !tally.state.is_idle() {
+            return Err(IndexFault::OpenRecord);
+        }
+        Ok(tally)
     }
 }

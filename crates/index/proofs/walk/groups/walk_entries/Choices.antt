@@ -3,7 +3,7 @@ use Prim.Native.Nat.{_+_, _≤_}
 use Rattle.index.specs.Succession.{partsSum}
 use Rattle.index.specs.Cursors.{Sound, cursorOf, remaining}
 use Rattle.index.specs.Counted.{tallied}
-use Rattle.index.proofs.walk.walk_entries.Given as given
+use Rattle.index.proofs.walk.groups.walk_entries.Given as given
 
 -- what is left gives what all gives; the numbers grow by as much as was read
 abbrev pub Inv-loop-entry : given.InvT-loop-entry

@@ -15,7 +15,7 @@ use Rattle.index.specs.Cursors.{cursorOf, remaining}
 use Rattle.index.specs.Counted.{tallied, Small, Grown}
 use Rattle.index.proofs.Growing.{stepped-grown}
 use Rattle.index.proofs.Turning.{turn-sound, turn-left, turn-place, turn-bytes, last-turn, more-turn, no-turn}
-use Rattle.index.proofs.walk.walk_entries.Needs as need
+use Rattle.index.proofs.walk.groups.walk_entries.Needs as need
 
 pub loop-entry-holds : need.loop-entry-holds
 loop-entry-holds c = (c .pre .sound, refl, c .pre .starts .used, omega arith, refl, omega arith, omega arith, omega arith)
