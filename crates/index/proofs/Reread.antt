@@ -18,12 +18,12 @@ pub length-zeros : (n : ℕ) → length (zeros n) ≡ n
 unfolding zeros
 length-zeros n = length-replicate n 0
 
-length-entries : (ps : List Entry) → length (indexBytes ps) ≡ 4 * length ps
+pub length-entries : (ps : List Entry) → length (indexBytes ps) ≡ 4 * length ps
 unfolding indexBytes
 length-entries [] = refl
 length-entries (p ∷ ps) = let ih = length-entries ps in length-append (indexBytes ps) (entryBytes p) ∙ omega arith
 
-length-bytes : (ps : List Entry) → length (userBytes ps) ≡ used ps
+pub length-bytes : (ps : List Entry) → length (userBytes ps) ≡ used ps
 unfolding userBytes used
 length-bytes [] = refl
 length-bytes (p ∷ ps) = length-append (p .bytes) (userBytes ps) ∙ ap (λ (x : ℕ). length (p .bytes) + x) (length-bytes ps)

@@ -10,3 +10,4 @@ pub mod Counted
 pub mod Cursors
 pub mod Faults
 pub mod Answers
+pub mod Writing

@@ -10,3 +10,4 @@ pub mod succession;
 pub mod table;
 pub mod tally;
 pub mod walk;
+pub mod writer;
