@@ -13,19 +13,19 @@ use Rattle.index.specs.Entries.{Entry, Group, used}
 use Rattle.index.specs.Lay.{Recording, free, entry, part, put, stored, complete, room, layRest, layParts, layBegun, layRecord}
 use Rattle.index.specs.Bytes.{entryBytes}
 use Rattle.index.specs.Calls.{made, closed}
-use Rattle.index.specs.Settled.{Seen, seen, sketch, Alone, Settled}
+use Rattle.index.specs.Settled.{KindCount, kindCount, outline, Alone, Settled}
 
 -- ---- the ways of a rest
 
-rest-same : (f n : ℕ) (bs : List ℕ) (s : Recording) → length bs + 8 ≤ free s → layRest (suc f) n bs s ≡ put (entry s Total n []) (put (part s Last bs) s)
+pub rest-same : (f n : ℕ) (bs : List ℕ) (s : Recording) → length bs + 8 ≤ free s → layRest (suc f) n bs s ≡ put (entry s Total n []) (put (part s Last bs) s)
 unfolding layRest
 rest-same f n bs s h = cond-true _ _ _ (le-leb (length bs + 8) (free s) h)
 
-rest-late : (f n : ℕ) (bs : List ℕ) (s : Recording) → free s < length bs + 8 → length bs + 4 ≤ free s → layRest (suc f) n bs s ≡ put (entry s Total n []) (complete (put (part s Last bs) s))
+pub rest-late : (f n : ℕ) (bs : List ℕ) (s : Recording) → free s < length bs + 8 → length bs + 4 ≤ free s → layRest (suc f) n bs s ≡ put (entry s Total n []) (complete (put (part s Last bs) s))
 unfolding layRest
 rest-late f n bs s h k = cond-false _ _ _ (lt-leb (length bs + 8) (free s) h) ∙ cond-true _ _ _ (le-leb (length bs + 4) (free s) k)
 
-rest-more : (f n : ℕ) (bs : List ℕ) (s : Recording) → free s < length bs + 4 → layRest (suc f) n bs s ≡ layRest f n (drop (free s - 4) bs) (complete (put (part s Middle (take (free s - 4) bs)) s))
+pub rest-more : (f n : ℕ) (bs : List ℕ) (s : Recording) → free s < length bs + 4 → layRest (suc f) n bs s ≡ layRest f n (drop (free s - 4) bs) (complete (put (part s Middle (take (free s - 4) bs)) s))
 unfolding layRest
 rest-more f n bs s h = cond-false _ _ _ (lt-leb (length bs + 8) (free s) (omega arith)) ∙ cond-false _ _ _ (lt-leb (length bs + 4) (free s) h)
 
@@ -49,20 +49,20 @@ opened : (s : Recording) → free (complete s) ≡ 126596
 unfolding used
 opened s = refl
 
-none : (g : ℕ) → sketch (made g) ≡ ((Skip, 126632) ∷ []) ∷ []
+none : (g : ℕ) → outline (made g) ≡ ((Skip, 126632) ∷ []) ∷ []
 unfolding used
 none g = refl
 
 entire-alone : Alone 126592 (((Entire, 126592) ∷ (Skip, 40) ∷ []) ∷ [])
 unfolding used
-entire-alone g bs e = ap sketch (alone-entire g bs (omega arith)) ∙ ap (λ (n : ℕ). ((Entire, n) ∷ (Skip, 126632 - (n + 0)) ∷ []) ∷ []) e
+entire-alone g bs e = ap outline (alone-entire g bs (omega arith)) ∙ ap (λ (n : ℕ). ((Entire, n) ∷ (Skip, 126632 - (n + 0)) ∷ []) ∷ []) e
 
 -- the rest is a last part, and the total stands beside it
 two-groups : (n m : ℕ) → n ≡ suc m → 126592 < n → n ≤ 253180
     → Alone n (((Start, 126592) ∷ (Skip, 40) ∷ []) ∷ ((Last, n - 126592) ∷ (Total, n) ∷ (Skip, 126632 - (n - 126592 + 0)) ∷ []) ∷ [])
 unfolding used
 two-groups n m s a b g bs e =
-    ap sketch (alone-parts g n bs e (omega arith)
+    ap outline (alone-parts g n bs e (omega arith)
     ∙ (ap (λ (x : ℕ). layRest x n (drop 126592 bs) (first g bs)) s
     ∙ rest-same m n (drop 126592 bs) (first g bs) (omega (arith, length-drop 126592 bs, opened (put (part (made g) Start (take 126592 bs)) (made g))))))
     ∙ ap₂ (λ (x y : ℕ). ((Start, x) ∷ (Skip, 126632 - (x + 0)) ∷ []) ∷ ((Last, y) ∷ (Total, n) ∷ (Skip, 126632 - (y + 0)) ∷ []) ∷ [])
@@ -73,7 +73,7 @@ late-total : (n m : ℕ) → n ≡ suc m → 253180 < n → n ≤ 253184
     → Alone n (((Start, 126592) ∷ (Skip, 40) ∷ []) ∷ ((Last, n - 126592) ∷ (Skip, 126632 - (n - 126592 + 0)) ∷ []) ∷ ((Total, n) ∷ (Skip, 126632) ∷ []) ∷ [])
 unfolding used
 late-total n m s a b g bs e =
-    ap sketch (alone-parts g n bs e (omega arith)
+    ap outline (alone-parts g n bs e (omega arith)
     ∙ (ap (λ (x : ℕ). layRest x n (drop 126592 bs) (first g bs)) s
     ∙ rest-late m n (drop 126592 bs) (first g bs) (omega (arith, length-drop 126592 bs, opened o)) (omega (arith, length-drop 126592 bs, opened o))))
     ∙ ap₂ (λ (x y : ℕ). ((Start, x) ∷ (Skip, 126632 - (x + 0)) ∷ []) ∷ ((Last, y) ∷ (Skip, 126632 - (y + 0)) ∷ []) ∷ ((Total, n) ∷ (Skip, 126632) ∷ []) ∷ [])
@@ -87,7 +87,7 @@ with-middle : (n m : ℕ) → n ≡ suc (suc m) → 253184 < n → n ≤ 379772
     → Alone n (((Start, 126592) ∷ (Skip, 40) ∷ []) ∷ ((Middle, 126592) ∷ (Skip, 40) ∷ []) ∷ ((Last, n - 253184) ∷ (Total, n) ∷ (Skip, 126632 - (n - 253184 + 0)) ∷ []) ∷ [])
 unfolding used
 with-middle n m s a b g bs e =
-    ap sketch (alone-parts g n bs e (omega arith)
+    ap outline (alone-parts g n bs e (omega arith)
     ∙ (ap (λ (x : ℕ). layRest x n r (first g bs)) s
     ∙ (rest-more (suc m) n r (first g bs) (omega (arith, length-drop 126592 bs, opened o))
     ∙ rest-same m n (drop 126592 r) (complete (put (part (first g bs) Middle (take 126592 r)) (first g bs)))

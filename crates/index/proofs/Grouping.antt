@@ -19,11 +19,12 @@ use Rattle.index.specs.declared.tally.Tally.{Tally}
 use Rattle.index.specs.Entries.{Entry, used}
 use Rattle.index.specs.Succession.{partsSum}
 use Rattle.index.specs.Walk.{next, none, leftOpen}
-use Rattle.index.specs.Bytes.{number, named, kindOf, readEntry, readEntries}
-use Rattle.index.specs.Cursors.{Cursor, startedWith, remaining}
+use Rattle.index.specs.Bytes.{number, named, kindOf, readEntry, readEntries, readGroup}
+use Rattle.index.specs.Cursors.{Cursor, startedWith, remaining, ReadsGroup, ReadsAll}
 use Rattle.index.specs.Counted.{stepped, closed, tallied, tableChecked, totalsChecked, tableIn, opened, entriesTallied, groupTallied, Grown}
 use Rattle.index.proofs.Growing.{stepped-grown, closed-kept}
 use Rattle.index.proofs.Counting.{length-read}
+use Rattle.index.proofs.Coming.{started-sound, sound-advanced, remaining-more, remaining-none}
 
 -- a result is not both
 pub no-fault : {A : Type 0} {B : Type 0} (x : IndexFault) (y : A) → _≡_ {A = Result A IndexFault} (Err x) (Ok y) → B
@@ -138,3 +139,12 @@ group-within n s c g u l = go (tableChecked n (tableIn g)) refl (entriesTallied 
         let f = table-few n (tableIn g) v p in
         subst (λ (x : Tally). Within (opened s c) x 126632 31650) (totals-same (tableIn g) t u e)
         (record { sum = omega (arith, w .sum); items = omega (arith, w .items); ones = omega (arith, w .ones); twos = omega (arith, w .twos) })
+
+-- ---- readers
+
+pub reads-group : ReadsGroup
+unfolding readGroup
+reads-group g l h = (started-sound (number 2 126602 g) g l h, entries-read (number 2 126602 g) g l)
+
+pub reads-all : ReadsAll
+reads-all c s = record { some = λ a. (sound-advanced c s a, remaining-more c s a); none = λ a. remaining-none c s a .1 }

@@ -24,22 +24,22 @@ pub data Laid : Recording → Position → List Item → Type 0 where
   putting : {s : Recording} {st : Position} {l : List Item} (p : Entry) → Laid s st l → Fits st p → Sound p
       → used (s .open′) + length (p .bytes) + 4 * suc (length (s .open′)) ≤ 126596 → Laid (put p s) (after st p) (l ++ gives st p)
   completing : {s : Recording} {st : Position} {l : List Item} → Laid s st l → closes st Skip ≡ true → Laid (complete s) (skipped st) l
-  warming : {s : Recording} {st : Position} {l : List Item} → Laid s st l → Laid (warning s) st l
+  warns : {s : Recording} {st : Position} {l : List Item} → Laid s st l → Laid (warning s) st l
 
 fresh-inv : (g : ℕ) → Inv (made g) idle []
 unfolding walk walkGroups used ofKind
 fresh-inv g = record
     { before = record { position = idle; items = [] }; groups = refl; here = λ limit m. refl; fits = omega arith; items = refl; ones = refl; twos = refl }
 
-warm-inv : (s : Recording) (st : Position) (l : List Item) → Inv s st l → Inv (warning s) st l
-warm-inv s st l i = record
+warn-inv : (s : Recording) (st : Position) (l : List Item) → Inv s st l → Inv (warning s) st l
+warn-inv s st l i = record
     { before = i .before; groups = i .groups; here = i .here; fits = i .fits; items = i .items; ones = i .ones; twos = i .twos }
 
 pub laid-inv : {s : Recording} {st : Position} {l : List Item} → Laid s st l → Inv s st l
 laid-inv (fresh g) = fresh-inv g
 laid-inv (putting {s = s} {st = st} {l = l} p i f o h) = put-inv s st l p (laid-inv i) f h
 laid-inv (completing {s = s} {st = st} {l = l} i c) = complete-inv s st l (laid-inv i) c
-laid-inv (warming {s = s} {st = st} {l = l} i) = warm-inv s st l (laid-inv i)
+laid-inv (warns {s = s} {st = st} {l = l} i) = warn-inv s st l (laid-inv i)
 
 pub laid-fits : {s : Recording} {st : Position} {l : List Item} → Laid s st l → used (s .open′) + 4 * length (s .open′) ≤ 126596
 laid-fits i = laid-inv i .fits
@@ -48,7 +48,7 @@ pub laid-warned : {s : Recording} {st : Position} {l : List Item} → Laid s st 
 laid-warned (fresh g) = omega arith
 laid-warned (putting p i f o h) = laid-warned i
 laid-warned (completing i c) = laid-warned i
-laid-warned (warming i) = omega arith
+laid-warned (warns i) = omega arith
 
 -- ---- groups that bytes hold
 
@@ -60,7 +60,7 @@ pub laid-sound : {s : Recording} {st : Position} {l : List Item} → Laid s st l
 laid-sound (fresh g) = tt
 laid-sound (putting {s = s} p i f o h) = all-snoc Sound (s .open′) p (laid-sound i) o
 laid-sound (completing i c) = tt
-laid-sound (warming i) = laid-sound i
+laid-sound (warns i) = laid-sound i
 
 pub finishes-few : (k : Kind) → finishes k ≤ 1
 finishes-few Total = omega arith
@@ -95,14 +95,14 @@ few-complete s h f =
     let n = length-snoc (s .done) (stored 0 s) in
     record { items = omega arith; ones = omega arith; twos = omega arith }
 
-few-warm : (s : Recording) → Few s → Few (warning s)
-few-warm s f = record { items = f .items; ones = f .ones; twos = f .twos }
+few-warn : (s : Recording) → Few s → Few (warning s)
+few-warn s f = record { items = f .items; ones = f .ones; twos = f .twos }
 
 pub laid-few : {s : Recording} {st : Position} {l : List Item} → Laid s st l → Few s
 laid-few (fresh g) = record { items = omega arith; ones = omega arith; twos = omega arith }
 laid-few (putting {s = s} p i f o h) = few-put s p (laid-few i)
 laid-few (completing {s = s} i c) = few-complete s (laid-fits i) (laid-few i)
-laid-few (warming {s = s} i) = few-warm s (laid-few i)
+laid-few (warns {s = s} i) = few-warn s (laid-few i)
 
 -- the open group, stored
 pub stored-whole : {s : Recording} {st : Position} {l : List Item} (final : ℕ) → final < 256 → Laid s st l → current s < 65536 → Whole (stored final s)
@@ -127,13 +127,13 @@ laid-whole (putting p i f o b) h = laid-whole i h
 laid-whole (completing {s = s} i c) h =
     let n : current s < 65536 = omega (arith, length-snoc (s .done) (stored 0 s)) in
     all-snoc Whole (s .done) (stored 0 s) (laid-whole i (omega arith)) (stored-whole 0 (omega arith) i n)
-laid-whole (warming i) h = laid-whole i h
+laid-whole (warns i) h = laid-whole i h
 
 pub laid-on : {s : Recording} {st : Position} {l : List Item} → Laid s st l → All (λ (g : Group). g .final ≡ 0) (s .done)
 laid-on (fresh g) = tt
 laid-on (putting p i f o b) = laid-on i
 laid-on (completing {s = s} i c) = all-snoc (λ (g : Group). g .final ≡ 0) (s .done) (stored 0 s) (laid-on i) refl
-laid-on (warming i) = laid-on i
+laid-on (warns i) = laid-on i
 
 pub numbered-snoc : (gs : List Group) (g : Group) (n m : ℕ) → Numbered n gs → m ≡ n + length gs → g .number ≡ m → Numbered n (gs ++ (g ∷ []))
 numbered-snoc [] g n m h e k = (k ∙ e ∙ add-zero n, tt)
@@ -143,7 +143,7 @@ pub laid-numbered : {s : Recording} {st : Position} {l : List Item} → Laid s s
 laid-numbered (fresh g) = tt
 laid-numbered (putting p i f o b) = laid-numbered i
 laid-numbered (completing {s = s} i c) = numbered-snoc (s .done) (stored 0 s) 1 (current s) (laid-numbered i) (omega arith) refl
-laid-numbered (warming i) = laid-numbered i
+laid-numbered (warns i) = laid-numbered i
 
 -- ---- completed groups stay
 

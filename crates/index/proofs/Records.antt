@@ -241,16 +241,16 @@ rest-inv (suc f) n bs a w s l i o b fu e big q =
     w₀ = laid-warned i
 
 -- an item that needs n free of a group begins in a group that has them
-pub record Roomy (n : ℕ) (s t : Recording) (l : List Item) : Type 0 where
+pub record HasRoom (n : ℕ) (s t : Recording) (l : List Item) : Type 0 where
   pub inv : Laid t idle l
   pub enough : n ≤ free t
   pub limit : t .limit ≡ s .limit
   pub grown : Grown s t
   pub warned : t .warned ≡ s .warned
 
-room-inv : (n : ℕ) (s : Recording) (l : List Item) → n ≤ 126596 → Laid s idle l → Roomy n s (room n s) l
+room-inv : (n : ℕ) (s : Recording) (l : List Item) → n ≤ 126596 → Laid s idle l → HasRoom n s (room n s) l
 room-inv n s l b i =
-    cond-both (leb n (free s)) _ _ (λ (t : Recording). Roomy n s t l)
+    cond-both (leb n (free s)) _ _ (λ (t : Recording). HasRoom n s t l)
     (λ t. record { inv = i; enough = leb-true n (free s) t; limit = refl; grown = same-grown s s refl; warned = refl })
     (λ t. record { inv = completing i refl; enough = omega (arith, opens s .bytes, opens s .entries); limit = refl; grown = one-grown s (complete s) (stored 0 s) refl; warned = refl })
 

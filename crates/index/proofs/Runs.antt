@@ -13,7 +13,7 @@ use Rattle.index.specs.Walk.{Position, Position.idle, walk, walkGroups, ofKind
 use Rattle.index.specs.Lay.{Recording, current, stored, recordEnds, markEnds, layRecord, layMark}
 use Rattle.index.specs.Calls.{Call, Call.record′, Call.mark′, Call.warn′, Listed, Sends, Running, Holds, Faithful, made, nothing, declines, carried, warning, listed, called, ran, begin, closed, groupsOf, Closes, Recorded, Predicted}
 use Rattle.index.proofs.Lays.{Inv, stored-walks}
-use Rattle.index.proofs.Laid.{Laid, Laid.fresh, Laid.warming, laid-inv, Grown, same-grown, laid-whole, laid-on, stored-whole, all-snoc}
+use Rattle.index.proofs.Laid.{Laid, Laid.fresh, Laid.warns, laid-inv, Grown, same-grown, laid-whole, laid-on, stored-whole, all-snoc}
 use Rattle.index.proofs.Walks.{groups-snoc, length-snoc}
 use Rattle.index.proofs.Reread.{reread}
 use Rattle.std.specs.shelf.Lists.{All}
@@ -71,7 +71,7 @@ marked r n k = go (eqb n 1 || eqb n 2) refl (ltb (r .state .limit) (markEnds (r 
 pub carries : (r : Running) (c : Call) → Sends c → Kept r → declines (r .state) c ≡ 0 → Keeps r (done r c)
 carries r (record′ bs) sm k e = recorded r bs sm k e
 carries r (mark′ n) sm k e = marked r n k e
-carries r warn′ sm k e = record { kept = record { inv = warming (k .inv); warned = refl; within = k .within }; limit = refl; grown = same-grown (r .state) _ refl }
+carries r warn′ sm k e = record { kept = record { inv = warns (k .inv); warned = refl; within = k .within }; limit = refl; grown = same-grown (r .state) _ refl }
 
 once : (r : Running) (c : ℕ × Call) → Sends (c .1) → Kept r → Keeps r (called r c)
 once r c sm k =

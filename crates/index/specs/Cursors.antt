@@ -1,6 +1,6 @@
 -- Going through the entries of an index.
-use mathlib.Core.Bool.{Bool, cond, _&&_}
-use mathlib.Core.List.{List}
+use mathlib.Core.Bool.{Bool, true, false, cond, _&&_}
+use mathlib.Core.List.{List, [], _∷_}
 use mathlib.Core.Path.{_≡_}
 use Prim.Native.Nat.{ℕ, _+_, _-_, _*_, _≤_}
 use lib.ListN.{length, take}
@@ -8,7 +8,7 @@ use lib.Dec.{ltb, leb}
 use denote.Ref.{now}
 use Rattle.index.specs.declared.reader.IndexReader.{IndexReader}
 use Rattle.index.specs.Entries.{Entry}
-use Rattle.index.specs.Bytes.{number, readAt, readEntries}
+use Rattle.index.specs.Bytes.{number, readAt, readEntries, readGroup}
 
 -- what a reader of an index holds: the group, the bytes before the entries that were read, how many entries are left,
 -- and the place of the next user byte
@@ -57,3 +57,15 @@ advanced c = record {
   left = c .left - 1;
   place = c .place + length (coming c .bytes);
 }
+
+-- at the first entry of a group, the entries that are left are the group's
+abbrev pub ReadsGroup : Type 0
+ReadsGroup = (g : List ℕ) → length g ≡ 126632 → number 2 126602 g ≤ 31650 → Sound (started g) × (remaining (started g) ≡ readGroup g .entries)
+
+-- an entry that is read is the first of those that were left, and none is read only where none is left
+pub record ReadsOn (c : Cursor) : Type 0 where
+  pub some : ahead c ≡ true → Sound (advanced c) × (remaining c ≡ coming c ∷ remaining (advanced c))
+  pub none : ahead c ≡ false → remaining c ≡ []
+
+abbrev pub ReadsAll : Type 0
+ReadsAll = (c : Cursor) → Sound c → ReadsOn c

@@ -11,22 +11,22 @@ use Rattle.index.specs.Bytes.{entryBytes}
 use Rattle.index.specs.Calls.{made, closed}
 
 -- an entry's kind and count
-abbrev pub Seen : Type 0
-Seen = Kind × ℕ
+abbrev pub KindCount : Type 0
+KindCount = Kind × ℕ
 
-abbrev pub seen : Entry → Seen
-seen p = (p .kind, p .count)
+abbrev pub kindCount : Entry → KindCount
+kindCount p = (p .kind, p .count)
 
 -- the entries of each group
-abbrev pub sketch : Recording → List (List Seen)
-sketch s = map (λ (g : Group). map seen (g .entries)) (closed s)
+abbrev pub outline : Recording → List (List KindCount)
+outline s = map (λ (g : Group). map kindCount (g .entries)) (closed s)
 
 -- a record of n bytes, whatever they are, in a new recording
-abbrev pub Alone : ℕ → List (List Seen) → Type 0
-Alone n gs = (g : ℕ) (bs : List ℕ) → length bs ≡ n → sketch (layRecord bs (made g)) ≡ gs
+abbrev pub Alone : ℕ → List (List KindCount) → Type 0
+Alone n gs = (g : ℕ) (bs : List ℕ) → length bs ≡ n → outline (layRecord bs (made g)) ≡ gs
 
 pub record Settled : Type 0 where
-  pub none : (g : ℕ) → sketch (made g) ≡ ((Skip, 126632) ∷ []) ∷ []
+  pub none : (g : ℕ) → outline (made g) ≡ ((Skip, 126632) ∷ []) ∷ []
   pub none-bytes : (g : ℕ) → entryBytes (entry (made g) Skip 126632 []) ≡ 0x80 ∷ 0x01 ∷ 0xEE ∷ 0xA8 ∷ []
   pub entire′ : Alone 126592 (((Entire, 126592) ∷ (Skip, 40) ∷ []) ∷ [])
   pub parts : Alone 126593 (((Start, 126592) ∷ (Skip, 40) ∷ []) ∷ ((Last, 1) ∷ (Total, 126593) ∷ (Skip, 126631) ∷ []) ∷ [])

@@ -1,8 +1,10 @@
 ghost use Rattle.index.specs.Calls.{Faithful, Recorded, Predicted};
 ghost use Rattle.index.specs.Bytes.{Reread};
 ghost use Rattle.index.specs.Counted.{Agreed};
+ghost use Rattle.index.specs.Cursors.{ReadsGroup, ReadsAll};
 ghost use Rattle.index.specs.Lay.{BoundFree};
 ghost use Rattle.index.specs.Settled.{Settled};
+ghost use Rattle.index.specs.Writing.{OpensEmpty, StoresOpen};
 
 /// After any calls, carried out or declined, the groups and the open group's entries give the list so far; a
 /// recording that is closed then is read back from its bytes; and a record's last entry stands in the predicted group.
@@ -38,6 +40,22 @@ pub fn rests_stand() -> u8
 /// Walking a group by numbers alone gives the state and the numbers of walking it, and the same fault.
 pub fn numbers_stand() -> u8
     ensures { λ _. ⌜ Agreed ⌝ }
+{
+    0
+}
+
+/// A reader gives a group's entries, one after the other.
+pub fn readers_stand() -> u8
+    ensures group { λ _. ⌜ ReadsGroup ⌝ }
+    ensures all { λ _. ⌜ ReadsAll ⌝ }
+{
+    0
+}
+
+/// A group of zeros is an open group without entries, and a completed one is the group that a recording stores.
+pub fn writers_stand() -> u8
+    ensures empty { λ _. ⌜ OpensEmpty ⌝ }
+    ensures stored { λ _. ⌜ StoresOpen ⌝ }
 {
     0
 }
