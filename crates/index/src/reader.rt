@@ -39,7 +39,11 @@ fn part_at<'a>(group: &'a [u8], place: usize, count: u32) -> &'a [u8]
     }
     let rest = &group[place..];
     let count = count as usize;
-    if count < rest.len() { &rest[0..count] } else { rest }
+    if count < rest.len() {
+        &rest[0..count]
+    } else {
+        rest
+    }
 }
 
 impl<'a> IndexReader<'a> {
@@ -58,7 +62,12 @@ impl<'a> IndexReader<'a> {
         requires { ⌜ length (now group) ≡ 126632 ⌝ }
         ensures { λ r. ⌜ cursorOf r ≡ startedWith left (now (group .entry)) ⌝ }
     {
-        IndexReader { group, index: &group[0..TABLE], left, place: 0 }
+        IndexReader {
+            group,
+            index: &group[0..TABLE],
+            left,
+            place: 0,
+        }
     }
 
     /// How many entries are left.
@@ -80,10 +89,20 @@ impl<'a> IndexReader<'a> {
         let warned = flag / 8 % 2;
         let kind = Kind::of_flag(flag - 8 * warned);
         let bytes = part_at(self.group, self.place, count);
-        let content = Content::new(kind, Part { place: self.place, bytes });
+        let content = Content::new(
+            kind,
+            Part {
+                place: self.place,
+                bytes,
+            },
+        );
         self.index = rest;
         self.left -= 1;
         self.place += content.length();
-        Some(IndexEntry { warned, count, content })
+        Some(IndexEntry {
+            warned,
+            count,
+            content,
+        })
     }
 }

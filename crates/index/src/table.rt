@@ -85,7 +85,11 @@ impl Table {
         if self.last > 1 {
             return Err(IndexFault::LastByte);
         }
-        if self.zeros { Ok(()) } else { Err(IndexFault::TableZeros) }
+        if self.zeros {
+            Ok(())
+        } else {
+            Err(IndexFault::TableZeros)
+        }
     }
 
     /// The table's totals against those of the entries, and then an open record.

@@ -81,15 +81,24 @@ impl Tally {
     {
         match (self.state, kind) {
             (State::Inside { length, warned }, Kind::Middle) => {
-                self.state = State::Begun { length: length + part, warned };
+                self.state = State::Begun {
+                    length: length + part,
+                    warned,
+                };
                 true
             }
             (State::Inside { length, warned }, Kind::Last) => {
-                self.state = State::Owing { length: length + part, warned };
+                self.state = State::Owing {
+                    length: length + part,
+                    warned,
+                };
                 true
             }
             (State::Idle, Kind::Start) => {
-                self.state = State::Begun { length: part, warned: warning };
+                self.state = State::Begun {
+                    length: part,
+                    warned: warning,
+                };
                 true
             }
             (State::Owing { .. } | State::Owed { .. }, Kind::Total) => {

@@ -35,7 +35,11 @@ fn put_u16(group: &mut [u8], at: usize, number: u16)
     requires { ⌜ at + 2 ≤ length (now group) ⌝ }
     ensures { λ _. ⌜ now (group .exit) ≡ replaced (now (group .entry)) at (two number) ⌝ }
 {
-    put_bytes(group, at, &[(number / 256 % 256) as u8, (number % 256) as u8]);
+    put_bytes(
+        group,
+        at,
+        &[(number / 256 % 256) as u8, (number % 256) as u8],
+    );
 }
 
 /// Writes a number of four bytes, the highest first.
@@ -122,7 +126,13 @@ pub fn lay_entry(
         return false;
     }
     put_bytes(group, fill.used, bytes);
-    put_entry(group, TABLE - 4 * (fill.entries as usize + 1), kind, warned, count);
+    put_entry(
+        group,
+        TABLE - 4 * (fill.entries as usize + 1),
+        kind,
+        warned,
+        count,
+    );
     true
 }
 
@@ -148,6 +158,15 @@ pub fn complete_group(
         return false;
     }
     let entries = fill.entries + 1;
-    put_table(group, Table { number, entries, counts, last, zeros: true });
+    put_table(
+        group,
+        Table {
+            number,
+            entries,
+            counts,
+            last,
+            zeros: true,
+        },
+    );
     true
 }

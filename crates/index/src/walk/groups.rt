@@ -24,7 +24,11 @@ use crate::walk::Walk;
 const LAST_BYTE: usize = 126616;
 
 /// Walks the entries that a reader has left, from a group's opening on.
-fn walk_entries(mut reader: IndexReader, limit: usize, mut tally: Tally) -> Result<Tally, IndexFault>
+fn walk_entries(
+    mut reader: IndexReader,
+    limit: usize,
+    mut tally: Tally,
+) -> Result<Tally, IndexFault>
     requires sound { ⌜ Sound (cursorOf reader) ⌝ }
     requires starts { ⌜ Starts tally (reader .place) ⌝ }
     ensures { λ r. ⌜ r ≡ tallied limit 1 tally (remaining (cursorOf (reader .entry))) ⌝ }
@@ -51,7 +55,15 @@ fn walk_group(group: &[u8], number: u32, state: State, counts: Counts) -> Result
     table.check(number)?;
     let reader = IndexReader::over(group, table.entries);
     let limit = TABLE - 4 * table.entries as usize;
-    let tally = walk_entries(reader, limit, Tally { state, used: 0, counts })?;
+    let tally = walk_entries(
+        reader,
+        limit,
+        Tally {
+            state,
+            used: 0,
+            counts,
+        },
+    )?;
     table.settle(tally)
 }
 
@@ -60,7 +72,15 @@ impl Walk {
     pub fn new() -> Walk
         ensures { λ r. ⌜ standing r ≡ (1, Idle, record { items = 0; ones = 0; twos = 0 }) ⌝ }
     {
-        Walk { number: 1, state: State::Idle, counts: Counts { items: 0, ones: 0, twos: 0 } }
+        Walk {
+            number: 1,
+            state: State::Idle,
+            counts: Counts {
+                items: 0,
+                ones: 0,
+                twos: 0,
+            },
+        }
     }
 
     /// The number of the next group.
@@ -95,7 +115,15 @@ impl Walk {
         }
         let tally = walk_group(group, self.number, self.state, self.counts)?;
         let last = group[LAST_BYTE];
-        *self = Walk { number: self.number + 1, state: tally.state, counts: tally.counts };
-        Ok(if last == 1 { Ending::Last } else { Ending::GoesOn })
+        *self = Walk {
+            number: self.number + 1,
+            state: tally.state,
+            counts: tally.counts,
+        };
+        Ok(if last == 1 {
+            Ending::Last
+        } else {
+            Ending::GoesOn
+        })
     }
 }

@@ -94,12 +94,18 @@ loop-entry-again c =
     let s = c .in-Continue-step .ensures tt in
     let g : Grown t (c .step .last .self) (length (m .bytes)) = stepped-grown (c .args .limit) k t (c .step .last .self) m (sym s) in
     let l = turn-left (c .args .limit) k t a d m (i .0) (n .answer .0) (n .answer .1) (n .after) in
-    let p = turn-place (c .args .limit) k t a d m (i .0) (n .answer .0) (n .answer .1) (n .after) in
-    (turn-sound (c .args .limit) k t a d m (i .0) (n .answer .0) (n .answer .1) (n .after),
-    ap (λ (x : ℕ). tallied (c .args .limit) x (c .step .last .self) (remaining d)) (add-one k)
-    ∙ (ap (λ (x : Result Tally IndexFault). next x (λ u. tallied (c .args .limit) (suc k) u (remaining d))) s
-    ∙ (sym (more-turn (c .args .limit) k t a d m (i .0) (n .answer .0) (n .answer .1) (n .after) (λ z. c .if-left-eq0 .left (c .left .ensures ∙ z))) ∙ i .1)),
-    omega arith, omega arith, omega arith, omega arith, omega arith, omega arith)
+    let p = turn-place (c .args .limit) k t a d m (i .0) (n .answer .0) (n .answer .1) (n .after) in (
+      turn-sound (c .args .limit) k t a d m (i .0) (n .answer .0) (n .answer .1) (n .after),
+      ap (λ (x : ℕ). tallied (c .args .limit) x (c .step .last .self) (remaining d)) (add-one k)
+          ∙ (ap (λ (x : Result Tally IndexFault). next x (λ u. tallied (c .args .limit) (suc k) u (remaining d))) s
+          ∙ (sym (more-turn (c .args .limit) k t a d m (i .0) (n .answer .0) (n .answer .1) (n .after) (λ z. c .if-left-eq0 .left (c .left .ensures ∙ z))) ∙ i .1)),
+      omega arith,
+      omega arith,
+      omega arith,
+      omega arith,
+      omega arith,
+      omega arith,
+    )
 
 pub returns : need.returns
 returns c =
