@@ -114,7 +114,7 @@ entries-back (p ∷ ps) g xs ys us vs i at s e n d a =
     (d ∙ (ap (λ (l : List ℕ). us ++ l) (append-assoc (p .bytes) (userBytes ps) vs) ∙ sym (append-assoc us (p .bytes) (userBytes ps ++ vs))))
     (ap (λ (x : ℕ). x + length (p .bytes)) a ∙ sym (length-append us (p .bytes))))
   where
-    -- the entry's own bytes position behind these
+    -- the entry's own bytes stand behind these
     front : List ℕ
     front = xs ++ indexBytes ps
 

@@ -101,7 +101,7 @@ restEnds g r = g + (r + 3) / 126592
 abbrev pub begunEnds : ℕ → Recording → ℕ
 begunEnds n s = cond (leb (n + 4) (free s)) (current s) (restEnds (suc (current s)) (n - (free s - 4)))
 
--- the group in which the last entry of a record of n bytes would position
+-- the group in which the last entry of a record of n bytes would stand
 abbrev pub recordEnds : ℕ → Recording → ℕ
 recordEnds n s = begunEnds n (room 5 s)
 

@@ -3,7 +3,7 @@ ghost use Rattle.index.specs.Bytes.{kindOf, flagOf};
 ghost use Rattle.index.specs.Succession.{known};
 
 /// What an entry of an index is, by its flag.
-#[derive(Clone, Copy, PartialEq, Eq, Debug)]
+#[derive(Clone, Copy)]
 pub enum Kind {
     /// The bytes of a whole record whose last part stands before.
     Total,

@@ -3,7 +3,7 @@ ghost use Rattle.index.specs.Succession.{partsSum, isIdle};
 
 /// The position in the succession of entries. Inside a record: the sum of its parts so far, and the warning of its
 /// first entry, 0 or 1.
-#[derive(Clone, Copy, PartialEq, Eq, Debug)]
+#[derive(Clone, Copy)]
 pub enum State {
     /// Outside any record.
     Idle,

@@ -10,12 +10,9 @@ use crate::fault::IndexFault;
 use crate::kind::Kind;
 use crate::reader::GROUP_BYTES;
 use crate::succession::State;
-use crate::succession::StateDebug;
-use crate::succession::StateEq;
-use crate::succession::StatePartialEq;
 
 /// The numbers of items, of marks of kind 1 and of marks of kind 2 since group 1.
-#[derive(Clone, Copy, PartialEq, Eq, Debug)]
+#[derive(Clone, Copy, PartialEq, Eq)]
 pub struct Counts {
     pub items: u32,
     pub ones: u32,
@@ -23,7 +20,7 @@ pub struct Counts {
 }
 
 /// A walk within a group: the position in the succession, the user bytes passed, and the numbers so far.
-#[derive(Clone, Copy, PartialEq, Eq, Debug)]
+#[derive(Clone, Copy)]
 pub struct Tally {
     pub state: State,
     pub used: usize,

@@ -14,7 +14,7 @@ use crate::table::Table;
 use crate::tally::Counts;
 
 /// How full an open group is: its entries and its user bytes.
-#[derive(Clone, Copy, PartialEq, Eq, Debug)]
+#[derive(Clone, Copy)]
 pub struct Fill {
     pub entries: u16,
     pub used: usize,
