@@ -1,0 +1,13 @@
+pub mod Entries
+pub mod Succession
+pub mod Walk
+pub mod Lay
+pub mod Bytes
+pub mod Calls
+pub mod Settled
+pub mod Contents
+pub mod Counted
+pub mod Cursors
+pub mod Faults
+pub mod Answers
+pub mod Writing
