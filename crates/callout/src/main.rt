@@ -1,4 +1,6 @@
 //! Records a callout: one order a line on standard input, on a tape image in memory.
+#![tactic(auto)]
+
 mod callout;
 mod contents;
 mod recording;

@@ -1,4 +1,5 @@
 //! The calls of a recording: what each answers and leaves, and the laws that join them to runs.
+#![tactic(auto)]
 
 pub mod fault;
 pub mod laws;

@@ -1,4 +1,6 @@
 //! One group on a tape image: it is written, worn, read back, and then given a track of another group.
+#![tactic(auto)]
+
 mod group;
 mod sheets;
 mod show;

@@ -3,6 +3,7 @@
 //!
 //! A line code gives for a state and a byte always the same word and next state, and for a word one byte or none;
 //! the word of any state and byte gives that byte back.
+#![tactic(auto)]
 
 pub mod fault;
 pub mod line;

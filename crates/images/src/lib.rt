@@ -1,4 +1,5 @@
 //! Tapes in memory: a word image, a packed image, and a word image that can only be played.
+#![tactic(auto)]
 
 mod checks;
 pub mod inhibited;

@@ -1,5 +1,6 @@
 //! The index of a group: entries and a table behind the user bytes, how items are laid into groups, and how groups are
 //! walked.
+#![tactic(auto)]
 
 pub mod entry;
 pub mod fault;

@@ -1,4 +1,5 @@
 //! Playing: what a tape gives, and what that promises of every recording.
+#![tactic(auto)]
 
 pub mod fault;
 pub mod laws;

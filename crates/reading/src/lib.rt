@@ -2,6 +2,7 @@
 //!
 //! A track is decoded block by block, its C1 words are checked, and its C2 words filled. What went wrong stands in a
 //! loss sheet. Up to two lost tracks of a group are filled by C3.
+#![tactic(auto)]
 
 mod c1;
 mod c2;

@@ -2,6 +2,8 @@
 //! `group`, `tap`, `start`), on what is lent from then on (`lent` tracks, `bench`, `buffer`), and its calls (`record`, `mark`,
 //! `warn`). Below it stand the answers, the closed recording, and the outline of each group read back from the tape. `apart`
 //! asks for single calls, as words on lending do, and `hex` for the last 40 bytes of each group.
+#![tactic(auto)]
+
 mod carrying;
 mod memory;
 mod outline;

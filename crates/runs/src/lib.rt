@@ -1,3 +1,4 @@
 //! Runs of a recording: definitions and laws.
+#![tactic(auto)]
 
 pub mod laws;

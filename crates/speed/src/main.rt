@@ -1,4 +1,6 @@
 //! How fast groups are written and read: `speed GROUPS` prints megabytes of group bytes a second.
+#![tactic(auto)]
+
 use channel::plain::Plain;
 use images::word_image::{STRIDE, WordImage};
 use layout::settings::Settings;

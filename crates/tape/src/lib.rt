@@ -2,6 +2,7 @@
 //!
 //! `Playable` and `Recordable` say what a tape does. A window on neighbouring tracks of a tape is a tape, and so is one
 //! that is lent.
+#![tactic(auto)]
 
 pub mod fault;
 pub mod lent;

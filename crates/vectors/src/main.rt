@@ -1,4 +1,6 @@
 //! Published vectors, and tables of cases that are run and compared.
+#![tactic(auto)]
+
 mod groups;
 mod lines;
 mod tapes;

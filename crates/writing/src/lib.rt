@@ -1,4 +1,6 @@
 //! A group as its 46 tracks: rows of bytes, arrays with their check bytes, channel words, and the tape.
+#![tactic(auto)]
+
 pub mod array;
 pub mod fault;
 pub mod group;
