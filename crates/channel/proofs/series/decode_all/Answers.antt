@@ -10,7 +10,7 @@ loop-i-preserved g c =
     let k = g.C.LineCode.decode c.args.code.now in
     let ws = c.args.words.now in
     let i = c.loop-i.i in
-    let e = c.byte-or-zero-byte.ensures in
+    let e = c.byte_or_zero-byte.ensures in
     let d = c.decode.ensures in
     let l = c.loop-i-test.true in (
       length-set _ _ _ ∙ c.loop-i.invariant.0,

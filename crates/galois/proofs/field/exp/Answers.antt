@@ -3,4 +3,4 @@ use Rattle.galois.proofs.Powers.{alpha-mod}
 use Rattle.galois.proofs.field.exp.Goals as goal
 
 pub returns : goal.returns
-returns c = c.listed-power.ensures ∙ alpha-mod c.args.e
+returns c = c.listed_power.ensures ∙ alpha-mod c.args.e

@@ -13,5 +13,5 @@ returns-then-b-eq0 c =
 
 pub returns-else-b-eq0 : goal.returns-else-b-eq0
 returns-else-b-eq0 c =
-    c.listed-power.ensures ∙ gpow-add 2 c.log.result c.log-else-b-eq0.result
+    c.listed_power.ensures ∙ gpow-add 2 c.log.result c.log-else-b-eq0.result
     ∙ ap₂ gmul c.log.ensures.power c.log-else-b-eq0.ensures.power

@@ -12,4 +12,4 @@ returns-then-x-eq0 c = sym (gpow-nought c.args.x c.args.e c.if-x-eq0.true c.if-e
 
 pub returns-else-x-eq0 : goal.returns-else-x-eq0
 returns-else-x-eq0 c =
-    c.listed-power.ensures ∙ alpha-mod-mul c.log.result c.args.e ∙ gpow-mul 2 c.log.result c.args.e ∙ ap (λ z. gpow z c.args.e) c.log.ensures.power
+    c.listed_power.ensures ∙ alpha-mod-mul c.log.result c.args.e ∙ gpow-mul 2 c.log.result c.args.e ∙ ap (λ z. gpow z c.args.e) c.log.ensures.power

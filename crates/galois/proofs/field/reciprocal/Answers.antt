@@ -7,4 +7,4 @@ pub returns-then-a-eq0 : goal.returns-then-a-eq0
 returns-then-a-eq0 c = sym (inv-nought c.args.a c.if-a-eq0.true)
 
 pub returns-else-a-eq0 : goal.returns-else-a-eq0
-returns-else-a-eq0 c = c.listed-power.ensures ∙ inv-alpha c.log.result c.log.ensures.below ∙ ap ginv c.log.ensures.power
+returns-else-a-eq0 c = c.listed_power.ensures ∙ inv-alpha c.log.result c.log.ensures.below ∙ ap ginv c.log.ensures.power

@@ -8,10 +8,10 @@ pub returns : goal.returns
 returns c =
     let g = c.args.group.now in
     let f = c.args.fill in
-    let e = c.if-not-lay-entry.ensures in
+    let e = c.if-not-lay_entry.ensures in
     let t : Table = record { number = c.args.number; entries = f.entries + 1; counts = c.args.counts; last = c.args.last; zeros = true } in
-    let h : c.put-table.new.group ≡ completed g f c.args.warned c.args.number c.args.counts c.args.last =
-    c.put-table.ensures ∙ ap (λ (x : List ℕ). replaced x 126600 (table_of t)) e.held in
+    let h : c.put_table.new.group ≡ completed g f c.args.warned c.args.number c.args.counts c.args.last =
+    c.put_table.ensures ∙ ap (λ (x : List ℕ). replaced x 126600 (table_of t)) e.held in
     record {
       answer = e.answer;
       held = h;

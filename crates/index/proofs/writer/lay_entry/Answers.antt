@@ -11,7 +11,7 @@ returns c =
     let f = c.args.fill in
     let p : Entry = record { kind = c.args.kind; count = c.args.count; warned = c.args.warned; bytes = c.args.bytes.now } in
     let a : true ≡ fits g f (length c.args.bytes.now) c.args.warned = search rules in
-    let h : c.put-entry.new.group ≡ entry_laid g f p = c.put-entry.ensures ∙ ap (λ (x : List ℕ). replaced x (entry_place f) (entry_bytes p)) c.put-bytes.ensures in
+    let h : c.put_entry.new.group ≡ entry_laid g f p = c.put_entry.ensures ∙ ap (λ (x : List ℕ). replaced x (entry_place f) (entry_bytes p)) c.put_bytes.ensures in
     record {
       answer = a;
       held = h;

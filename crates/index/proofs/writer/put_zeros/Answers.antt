@@ -3,4 +3,4 @@ use Rattle.index.proofs.writer.put_zeros.Goals as goal
 
 pub returns : goal.returns
 unfolding zeros
-returns c = c.put-bytes.ensures
+returns c = c.put_bytes.ensures

@@ -11,6 +11,6 @@ invariant-of-result c =
 pub returns : goal.returns
 returns c =
     record {
-      words = λ s b h. plain-encode c.plain-numbers.result s b c.plain-numbers.ensures h;
-      bytes = λ w. plain-decode c.plain-numbers.result w c.plain-numbers.ensures;
+      words = λ s b h. plain-encode c.plain_numbers.result s b c.plain_numbers.ensures h;
+      bytes = λ w. plain-decode c.plain_numbers.result w c.plain_numbers.ensures;
     }

@@ -16,5 +16,5 @@ returns-then-not-is-free c =
 
 pub loop-i-preserved : goal.loop-i-preserved
 loop-i-preserved c =
-    let t = table_more c.loop-i.bytes c.args.numbers.now c.loop-i.i c.loop-i.invariant.0 c.loop-i.invariant.1 c.loop-i.invariant.2 (sym c.if-not-is-free.ensures) in
+    let t = table_more c.loop-i.bytes c.args.numbers.now c.loop-i.i c.loop-i.invariant.0 c.loop-i.invariant.1 c.loop-i.invariant.2 (sym c.if-not-is_free.ensures) in
     (length-set _ _ _ ∙ c.loop-i.invariant.0, t.0, t.1)

@@ -22,16 +22,16 @@ overflow-add-self c =
 pub returns : goal.returns
 returns c =
     let r = c.args.self.now in
-    let t = c.in-ok-flag.ensures in
+    let t = c.in_ok-flag.ensures in
     let l : 0 < r.left = search rules in
     let u : Cursor = cursor_of r in
-    let f = c.in-ok-flag.flag in
-    let n = c.in-ok-flag.count in
-    let xs = c.in-ok-flag.rest.now in
+    let f = c.in_ok-flag.flag in
+    let n = c.in_ok-flag.count in
+    let xs = c.in_ok-flag.rest.now in
     let new = c.new-content.ensures in
-    let k = new.kind ∙ c.of-flag-kind.ensures in
-    let b = new.bytes ∙ ap (λ (x : Kind). cond (named x) c.part-at-bytes.result.now []) (sym new.kind) in
-    let e = read-coming u f n xs t (kind_in c.new-content.result) (bytes_in c.new-content.result) c.part-at-bytes.result.now k c.part-at-bytes.ensures b in
+    let k = new.kind ∙ c.of_flag-kind.ensures in
+    let b = new.bytes ∙ ap (λ (x : Kind). cond (named x) c.part_at-bytes.result.now []) (sym new.kind) in
+    let e = read-coming u f n xs t (kind_in c.new-content.result) (bytes_in c.new-content.result) c.part_at-bytes.result.now k c.part_at-bytes.ensures b in
     record {
       answer = (there u f n xs t l, e, new.place ∙ ap (λ (x : Kind). cond (named x) r.place 0) (sym new.kind));
       after = behind-coming u f n xs t (bytes_in c.new-content.result) c.length.result l (ap (λ (x : Entry). x.bytes) e) c.length.ensures;

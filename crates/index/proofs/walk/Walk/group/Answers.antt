@@ -31,7 +31,7 @@ pub returns-then-last-eq1 : goal.returns-then-last-eq1
 returns-then-last-eq1 c =
     let w = c.args.self.now in
     let g = c.args.group.now in
-    let t = c.in-ok-tally.tally in
+    let t = c.in_ok-tally.tally in
     let a : ◌≡◌ {A = Result Ending GroupFault} (Ok Last) (answered w g) = search rules in
     let s : ◌≡◌ {A = ℕ × State × Counts} (w.number + 1, t.state, t.counts) (standing_after w g) = search rules in
     record { answer = a; after = s; walked = gave w g (Ok Last) (w.number + 1, t.state, t.counts) a s }
@@ -40,7 +40,7 @@ pub returns-else-last-eq1 : goal.returns-else-last-eq1
 returns-else-last-eq1 c =
     let w = c.args.self.now in
     let g = c.args.group.now in
-    let t = c.in-ok-tally.tally in
+    let t = c.in_ok-tally.tally in
     let a : ◌≡◌ {A = Result Ending GroupFault} (Ok GoesOn) (answered w g) = search rules in
     let s : ◌≡◌ {A = ℕ × State × Counts} (w.number + 1, t.state, t.counts) (standing_after w g) = search rules in
     record { answer = a; after = s; walked = gave w g (Ok GoesOn) (w.number + 1, t.state, t.counts) a s }

@@ -38,7 +38,7 @@ pub returns-then-left-eq0 : goal.returns-then-left-eq0
 returns-then-left-eq0 c =
     let i = c.loop-entry.invariant in
     let n = c.in-Some.ensures in
-    c.in-ok-close.ensures
+    c.in_ok-close.ensures
     ∙ (sym (last_turn c.args.limit c.loop-entry.number c.loop-entry.tally (cursor_of c.loop-entry.reader) (cursor_of c.next.new.self) (meant c.in-Some.entry)
     i.0 n.answer.0 n.answer.1 n.after (sym c.left.ensures ∙ c.if-left-eq0.true))
     ∙ i.1)
@@ -84,7 +84,7 @@ loop-entry-preserved c =
     let m = meant c.in-Some.entry in
     let k = c.loop-entry.number in
     let t = c.loop-entry.tally in
-    let s = c.in-ok-step.ensures in
+    let s = c.in_ok-step.ensures in
     let g : Grown t c.step.new.self (length m.bytes) = stepped-grown c.args.limit k t c.step.new.self m (sym s) in
     let l = turn-left c.args.limit k t a d m i.0 n.answer.0 n.answer.1 n.after in
     let p = turn-place c.args.limit k t a d m i.0 n.answer.0 n.answer.1 n.after in (
@@ -103,4 +103,4 @@ loop-entry-preserved c =
 pub returns : goal.returns
 returns c =
     let i = c.loop-entry.invariant in
-    sym (sym i.1 ∙ no-turn c.args.limit c.loop-entry.number c.loop-entry.tally (cursor_of c.loop-entry.reader) i.0 c.in-default.ensures.answer)
+    sym (sym i.1 ∙ no-turn c.args.limit c.loop-entry.number c.loop-entry.tally (cursor_of c.loop-entry.reader) i.0 c.in_default.ensures.answer)

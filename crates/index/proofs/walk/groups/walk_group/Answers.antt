@@ -42,8 +42,8 @@ pub returns : goal.returns
 returns c =
     let g = c.args.group.now in
     let t = c.read-table.result in
-    let e = entries-walked c.args.number c.args.state c.args.counts g t (cursor_of c.over-reader.result) _ c.requires.size c.read-table.ensures c.over-reader.ensures c.in-ok-tally.ensures in
+    let e = entries-walked c.args.number c.args.state c.args.counts g t (cursor_of c.over-reader.result) _ c.requires.size c.read-table.ensures c.over-reader.ensures c.in_ok-tally.ensures in
     c.settle.ensures
-    ∙ (ap (λ (x : Table). totals_checked x c.in-ok-tally.tally) c.read-table.ensures
+    ∙ (ap (λ (x : Table). totals_checked x c.in_ok-tally.tally) c.read-table.ensures
     ∙ (ap (λ (x : Result Tally IndexFault). next x (λ u. totals_checked (table_in g) u)) e
-    ∙ table-right c.args.number c.args.state c.args.counts g t tt c.read-table.ensures c.in-ok-check.ensures))
+    ∙ table-right c.args.number c.args.state c.args.counts g t tt c.read-table.ensures c.in_ok-check.ensures))
