@@ -33,10 +33,10 @@ pub returns-then-recover : goal.returns-then-recover
 returns-then-recover c =
     corrected-is c.args.lost.now c.args.array.now c.recover.new.memory (take (32 - c.erasures-k.result) (drop c.erasures-k.result c.erasures-k.new.out)) c.args.m c.args.n
     (rest c.erasures-k.new.out c.erasures-k.result c.erasures-k.auto.out ∙ c.erasures-k.ensures.listed)
-    (few c.erasures-k.new.out c.erasures-k.result c.erasures-k.auto.out c.if-k-lt-EARLIEST.false) c.requires.2 c.requires.3 true c.if-recover.ensures
+    (few c.erasures-k.new.out c.erasures-k.result c.erasures-k.auto.out c.if-k-lt-EARLIEST.false) c.requires.m_bound c.requires.n_bound true c.if-recover.ensures
 
 pub returns-else-recover : goal.returns-else-recover
 returns-else-recover c =
     corrected-is c.args.lost.now c.args.array.now c.recover.new.memory (take (32 - c.erasures-k.result) (drop c.erasures-k.result c.erasures-k.new.out)) c.args.m c.args.n
     (rest c.erasures-k.new.out c.erasures-k.result c.erasures-k.auto.out ∙ c.erasures-k.ensures.listed)
-    (few c.erasures-k.new.out c.erasures-k.result c.erasures-k.auto.out c.if-k-lt-EARLIEST.false) c.requires.2 c.requires.3 false c.if-recover.ensures
+    (few c.erasures-k.new.out c.erasures-k.result c.erasures-k.auto.out c.if-k-lt-EARLIEST.false) c.requires.m_bound c.requires.n_bound false c.if-recover.ensures

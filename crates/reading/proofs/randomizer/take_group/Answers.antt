@@ -9,7 +9,7 @@ use Rattle.reading.proofs.randomizer.take_group.Goals as goal
 
 pub loop-d-init : goal.loop-d-init
 unfolding steps
-loop-d-init c = (c.requires.2, refl, λ f e h l. absurd (omega arith))
+loop-d-init c = (c.requires.start_bound, refl, λ f e h l. absurd (omega arith))
 
 pub loop-d-preserved : goal.loop-d-preserved
 loop-d-preserved c =
@@ -30,5 +30,5 @@ loop-d-preserved c =
 
 pub returns : goal.returns
 returns c =
-    group-is c.args.settings.tap c.args.settings.start c.args.rows.now c.loop-d.group (c.loop-d.auto.group ∙ c.requires.1)
+    group-is c.args.settings.tap c.args.settings.start c.args.rows.now c.loop-d.group (c.loop-d.auto.group ∙ c.requires.group_len)
     (λ f e h l. c.loop-d.invariant.2 f e h (omega arith))

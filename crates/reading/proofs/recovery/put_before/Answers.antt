@@ -6,6 +6,6 @@ use Rattle.reading.proofs.recovery.put_before.Goals as goal
 pub returns-then-kept : goal.returns-then-kept
 returns-then-kept c = record {
   start = sym (cond-true c.args.kept (c.args.k - 1) c.args.k c.if-kept.true);
-  listed = put-kept c.args.out.now c.args.k c.args.j c.requires.0 c.requires.1
+  listed = put-kept c.args.out.now c.args.k c.args.j c.requires.k_nonzero c.requires.k_in_bounds
       ∙ sym (cond-true c.args.kept (c.args.j ∷ drop c.args.k c.args.out.now) (drop c.args.k c.args.out.now) c.if-kept.true);
 }

@@ -15,5 +15,5 @@ loop-q-preserved c =
 pub returns : goal.returns
 unfolding row
 returns c =
-    sym (listed-is (λ q. array_in c.args.array.now (block_at q) (serial_at q)) c.loop-q.out 2912 (c.loop-q.auto.out ∙ c.requires.1)
+    sym (listed-is (λ q. array_in c.args.array.now (block_at q) (serial_at q)) c.loop-q.out 2912 (c.loop-q.auto.out ∙ c.requires.out_len)
     (λ k h. sym (c.loop-q.invariant k (omega arith))))

@@ -8,26 +8,34 @@ use Rattle.reed_solomon.proofs.Recursion.{bytes-from}
 use Rattle.reed_solomon.proofs.filling.fill_with.Goals as goal
 
 pub weights-requires : goal.weights-requires
-weights-requires c = (c.requires.0, c.requires.3, λ i h. All-get_or (λ p. p < length c.args.word.now) c.args.lost.now i 0 h c.requires.1.within)
+weights-requires c =
+    record {
+      n_bound = c.requires.word_len_bound;
+      out_len = c.requires.xs_len;
+      by_index = λ i h. All-get_or (λ p. p < length c.args.word.now) c.args.lost.now i 0 h c.requires.places.within;
+    }
 
 pub solve-requires : goal.solve-requires
-solve-requires c = (
-  c.syndromes-into.auto.sums ∙ c.requires.4 ∙ sym c.requires.3 ∙ sym c.weights.auto.out,
-  subst Distinct (sym c.weights.ensures) (distinct-weights (length c.args.word.now) c.args.lost.now (omega (arith, c.requires.0)) c.requires.1.within c.requires.1.once),
-)
+solve-requires c = record {
+  s_len = c.syndromes_into.auto.sums ∙ c.requires.vs_len ∙ sym c.requires.xs_len ∙ sym c.weights.auto.out;
+  distinct = subst Distinct (sym c.weights.ensures) (distinct-weights (length c.args.word.now) c.args.lost.now (omega (arith, c.requires.word_len_bound)) c.requires.places.within c.requires.places.once);
+}
 
-pub add-at-requires : goal.add-at-requires
-add-at-requires c =
-    (c.solve.auto.s ∙ c.syndromes-into.auto.sums ∙ c.requires.4, λ i h. All-get_or (λ p. p < length c.args.word.now) c.args.lost.now i 0 h c.requires.1.within)
+pub add_at-requires : goal.add_at-requires
+add_at-requires c =
+    record {
+      vs_len = c.solve.auto.s ∙ c.syndromes_into.auto.sums ∙ c.requires.vs_len;
+      by_index = λ i h. All-get_or (λ p. p < length c.args.word.now) c.args.lost.now i 0 h c.requires.places.within;
+    }
 
 pub returns-then-agrees : goal.returns-then-agrees
 returns-then-agrees c =
     let b = c.args.word.now in
     let ps = c.args.lost.now in
     let vs = c.solve.new.s in
-    let low = sums-agree ps b c.weights.new.out c.syndromes-into.new.sums vs c.weights.ensures (c.syndromes-into.auto.sums ∙ c.requires.4) c.syndromes-into.ensures c.solve.ensures in
-    subst (Filled c.args.r ps b) (sym c.add-at.ensures)
-    (filled c.args.r ps b vs (omega (arith, c.requires.0)) c.requires.1 c.requires.2 low
+    let low = sums-agree ps b c.weights.new.out c.syndromes_into.new.sums vs c.weights.ensures (c.syndromes_into.auto.sums ∙ c.requires.vs_len) c.syndromes_into.ensures c.solve.ensures in
+    subst (Filled c.args.r ps b) (sym c.add_at.ensures)
+    (filled c.args.r ps b vs (omega (arith, c.requires.word_len_bound)) c.requires.places c.requires.lost_len_bound low
     (λ e g h. c.if-agrees.ensures.0 refl e g h ∙ ap (λ x. vsum e x vs) c.weights.ensures))
 
 pub returns-else-agrees : goal.returns-else-agrees
@@ -35,7 +43,7 @@ returns-else-agrees c =
     let b = c.args.word.now in
     let ps = c.args.lost.now in
     let vs = c.solve.new.s in
-    let low = sums-agree ps b c.weights.new.out c.syndromes-into.new.sums vs c.weights.ensures (c.syndromes-into.auto.sums ∙ c.requires.4) c.syndromes-into.ensures c.solve.ensures in
+    let low = sums-agree ps b c.weights.new.out c.syndromes_into.new.sums vs c.weights.ensures (c.syndromes_into.auto.sums ∙ c.requires.vs_len) c.syndromes_into.ensures c.solve.ensures in
     let bb : (i : ℕ) → get_or b i 0 < 256 = λ i. search rules in
     let bv : (i : ℕ) → get_or vs i 0 < 256 = λ i. search rules in
     let bad : ((e : ℕ) → length ps ≤ e → e < c.args.r → syndrome e b ≡ vsum e c.weights.new.out vs) → ⊥ =
@@ -43,6 +51,6 @@ returns-else-agrees c =
     record {
       same = refl;
       none =
-          no_other c.args.r ps b vs (omega (arith, c.requires.0)) c.requires.1 c.requires.2 low (bytes-from b bb) (bytes-from vs bv)
+          no_other c.args.r ps b vs (omega (arith, c.requires.word_len_bound)) c.requires.places c.requires.lost_len_bound low (bytes-from b bb) (bytes-from vs bv)
           (λ high. bad (λ e g h. high e g h ∙ ap (λ x. vsum e x vs) (sym c.weights.ensures)));
     }

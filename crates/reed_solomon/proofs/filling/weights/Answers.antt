@@ -3,12 +3,12 @@ use Rattle.galois.specs.Galois.{alpha}
 use Rattle.std.proofs.lemmas.List.{ext_get_or, length-map, get_or-map}
 use Rattle.reed_solomon.proofs.filling.weights.Goals as goal
 
-pub overflow-sub-n : goal.overflow-sub-n
-overflow-sub-n c = omega (arith, c.requires.2 c.loop-i.i c.loop-i-test.true)
+pub overflow_sub-n : goal.overflow_sub-n
+overflow_sub-n c = omega (arith, c.requires.by_index c.loop-i.i c.loop-i-test.true)
 
 pub returns : goal.returns
 returns c =
     let f : ℕ → ℕ = λ p. alpha (c.args.n - 1 - p) in
     let ps : List ℕ = c.args.places.now in
-    ext_get_or 0 c.loop-i.out (map f ps) (c.loop-i.auto.out ∙ c.requires.1 ∙ sym (length-map ps f))
-    (λ k h. c.loop-i.invariant k (omega (arith, c.loop-i.auto.out, c.requires.1)) ∙ sym (get_or-map f ps k 0 0 (omega (arith, c.loop-i.auto.out, c.requires.1))))
+    ext_get_or 0 c.loop-i.out (map f ps) (c.loop-i.auto.out ∙ c.requires.out_len ∙ sym (length-map ps f))
+    (λ k h. c.loop-i.invariant k (omega (arith, c.loop-i.auto.out, c.requires.out_len)) ∙ sym (get_or-map f ps k 0 0 (omega (arith, c.loop-i.auto.out, c.requires.out_len))))

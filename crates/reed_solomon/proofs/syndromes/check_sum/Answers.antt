@@ -15,9 +15,9 @@ loop-j-preserved c =
     let e = c.args.e in
     let j = c.loop-j.j in
     let f : ℕ → ℕ = λ k. gmul (get_or b k 0) (alpha (e * (length b - 1 - k))) in
-    let n : c.saturating-sub-last.result - j ≡ length b - 1 - j = omega (arith, c.saturating-sub-last.ensures) in
+    let n : c.saturating_sub-last.result - j ≡ length b - 1 - j = omega (arith, c.saturating_sub-last.ensures) in
     sum_to-more f j c.loop-j.sum c.multiply-sum.result c.loop-j.invariant
-    (c.multiply-sum.ensures ∙ ap (gmul (get_or b j 0)) (c.exp.ensures ∙ sym (alpha-mod (e % 255 * ((c.saturating-sub-last.result - j) % 255))) ∙ alpha-mod-both e (c.saturating-sub-last.result - j) ∙ ap (λ m. alpha (e * m)) n))
+    (c.multiply-sum.ensures ∙ ap (gmul (get_or b j 0)) (c.exp.ensures ∙ sym (alpha-mod (e % 255 * ((c.saturating_sub-last.result - j) % 255))) ∙ alpha-mod-both e (c.saturating_sub-last.result - j) ∙ ap (λ m. alpha (e * m)) n))
 
 pub returns : goal.returns
 returns c =

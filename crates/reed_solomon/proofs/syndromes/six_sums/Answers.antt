@@ -18,12 +18,12 @@ loop-b-preserved c =
     let k : get_or w i 0 < 256 = search rules in
     let more : (e s p : ℕ) → s ≡ syndrome e (take i w) → p ≡ gmul s (alpha e) → bit_xor p (get_or w i 0) ≡ syndrome e (take (i + 1) w) =
     λ e s p inv is. ap (λ z. bit_xor z (get_or w i 0)) is ∙ syn-more e i (alpha e) s w h k refl inv in (
-      more 0 c.loop-b.s0 c.times-power.result c.loop-b.invariant.0 c.times-power.ensures,
-      more 1 c.loop-b.s1 c.times-power-in-loop-b.result c.loop-b.invariant.1 c.times-power-in-loop-b.ensures,
-      more 2 c.loop-b.s2 c.times-power-in-loop-b-2.result c.loop-b.invariant.2 c.times-power-in-loop-b-2.ensures,
-      more 3 c.loop-b.s3 c.times-power-in-loop-b-3.result c.loop-b.invariant.3 c.times-power-in-loop-b-3.ensures,
-      more 4 c.loop-b.s4 c.times-power-in-loop-b-4.result c.loop-b.invariant.4 c.times-power-in-loop-b-4.ensures,
-      more 5 c.loop-b.s5 c.times-power-in-loop-b-5.result c.loop-b.invariant.5 c.times-power-in-loop-b-5.ensures,
+      more 0 c.loop-b.s0 c.times_power.result c.loop-b.invariant.0 c.times_power.ensures,
+      more 1 c.loop-b.s1 c.times_power-in-loop-b.result c.loop-b.invariant.1 c.times_power-in-loop-b.ensures,
+      more 2 c.loop-b.s2 c.times_power-in-loop-b-2.result c.loop-b.invariant.2 c.times_power-in-loop-b-2.ensures,
+      more 3 c.loop-b.s3 c.times_power-in-loop-b-3.result c.loop-b.invariant.3 c.times_power-in-loop-b-3.ensures,
+      more 4 c.loop-b.s4 c.times_power-in-loop-b-4.result c.loop-b.invariant.4 c.times_power-in-loop-b-4.ensures,
+      more 5 c.loop-b.s5 c.times_power-in-loop-b-5.result c.loop-b.invariant.5 c.times_power-in-loop-b-5.ensures,
     )
 
 pub returns : goal.returns

@@ -10,16 +10,16 @@ pub store-track-requires : goal.store-track-requires
 store-track-requires g c =
     let d : 2912 * c.loop-t.t + 2912 - 2912 * c.loop-t.t ≡ 2912 = omega arith in
     let l : length (take (2912 * c.loop-t.t + 2912 - 2912 * c.loop-t.t) (drop (2912 * c.loop-t.t) c.args.rows.now)) ≡ 2912 =
-    simp (length-take, length-drop) (omega (arith, c.requires.2)) in
-    (c.requires.0, c.loop-t-test.true, omega (arith, c.requires.1, c.loop-t.invariant.0.size), l, c.requires.3, c.requires.4, c.loop-t.invariant.2, c.loop-t.invariant.3)
+    simp (length-take, length-drop) (omega (arith, c.requires.rows_len)) in
+    (c.requires.number_nonzero, c.loop-t-test.true, omega (arith, c.requires.number_in_bounds, c.loop-t.invariant.0.size), l, c.requires.numbers_len, c.requires.by_index, c.loop-t.invariant.2, c.loop-t.invariant.3)
 
 pub loop-t-init : goal.loop-t-init
 loop-t-init g c = (
   tracks-none (λ t. track (code_of (g.C.LineCode.encode c.args.code.now) (g.C.LineCode.decode c.args.code.now)) (address c.args.number t) (array_of (row_in c.args.rows.now t)))
       (46 * (c.args.number - 1)) (g.T.Playable.tracks c.args.tape.now),
   refl,
-  c.requires.5,
-  c.requires.6,
+  c.requires.array_len,
+  c.requires.buffer_len,
 )
 
 pub loop-t-preserved : goal.loop-t-preserved
@@ -30,7 +30,7 @@ loop-t-preserved g c =
     let t = c.loop-t.t in
     let us = g.T.Playable.tracks c.loop-t.tape in
     let d : 2912 * t + 2912 - 2912 * t ≡ 2912 = omega arith in (
-      tracks-more f base (g.T.Playable.tracks c.args.tape.now) us (g.T.Playable.tracks c.store-track.new.tape) t (omega (arith, c.requires.0, c.requires.1))
+      tracks-more f base (g.T.Playable.tracks c.args.tape.now) us (g.T.Playable.tracks c.store-track.new.tape) t (omega (arith, c.requires.number_nonzero, c.requires.number_in_bounds))
           (c.store-track.ensures.tape
           ∙ ap (λ n. set us (base + t) (Some (track k (address c.args.number t) (array_of (take n (drop (2912 * t) c.args.rows.now)))))) d) c.loop-t.invariant.0,
       c.store-track.ensures.kept ∙ c.loop-t.invariant.1,

@@ -18,7 +18,7 @@ returns g c =
     let lawful : Lawful k = record { words = g.met.C.LineCode.narrow code; bytes = g.met.C.LineCode.bytes code; law = g.met.C.LineCode.back code } in
     let valid : Valid t = record { frames = omega arith; signs = omega arith } in
     let b : (i : ℕ) → get_or c.make-array.new.array i 0 < 256 = λ i. search rules in
-    let l : at < length ts = omega (arith, c.requires.0, c.requires.1, c.requires.2) in
+    let l : at < length ts = omega (arith, c.requires.number_nonzero, c.requires.t_bound, c.requires.number_in_bounds) in
     record {
       kept = c.store.ensures.kept;
       tape =

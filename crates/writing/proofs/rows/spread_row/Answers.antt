@@ -9,7 +9,7 @@ loop-q-init c = row-none (plain_at c.args.group.now c.args.pad.now c.args.k) c.a
 pub loop-q-preserved : goal.loop-q-preserved
 loop-q-preserved c =
     row_more (plain_at c.args.group.now c.args.pad.now c.args.k) c.args.bench.now c.loop-q.bench c.args.k c.loop-q.q c.unchecked-byte.result
-    c.loop-q-test.true (omega (arith, c.loop-q.auto.bench, c.requires.3)) c.unchecked-byte.ensures c.loop-q.invariant
+    c.loop-q-test.true (omega (arith, c.loop-q.auto.bench, c.requires.in_bounds)) c.unchecked-byte.ensures c.loop-q.invariant
 
 pub returns : goal.returns
 returns c =

@@ -12,13 +12,13 @@ loop-s-init g c =
     let t = address c.args.group c.args.t in
     let x = array_in c.args.array.now in
     let b = c.args.b in
-    let zero = sent-sync k t x c.args.words.now c.args.before b c.sync-after.result c.requires.1 c.sync-after.ensures c.requires.3 in
+    let zero = sent-sync k t x c.args.words.now c.args.before b c.sync-after.result c.requires.b_bound c.sync-after.ensures c.requires.sent in
     let one = sent-at k t x _ c.send-after-one.new.words _ c.send-after-one.result b 1 c.first-label-w1.result _ (36 * b + 1) (36 * b + 2)
-    c.requires.1 (lit< tt) (lit< tt) (omega arith) refl (omega arith) (c.first-label-w1.ensures ∙ at_one t x b) c.send-after-one.ensures.next c.send-after-one.ensures.words zero in
+    c.requires.b_bound (lit< tt) (lit< tt) (omega arith) refl (omega arith) (c.first-label-w1.ensures ∙ at_one t x b) c.send-after-one.ensures.next c.send-after-one.ensures.words zero in
     let two = sent-at k t x _ c.send-after-two.new.words _ c.send-after-two.result b 2 b _ (36 * b + 2) (36 * b + 3)
-    c.requires.1 (lit< tt) (lit< tt) (omega arith) refl (omega arith) (at-two t x b) c.send-after-two.ensures.next c.send-after-two.ensures.words one in
+    c.requires.b_bound (lit< tt) (lit< tt) (omega arith) refl (omega arith) (at-two t x b) c.send-after-two.ensures.next c.send-after-two.ensures.words one in
     sent-at k t x _ c.send-state.new.words _ c.send-state.result b 3 (bit_xor c.first-label-w1.result b) _ (36 * b + 3) _
-    c.requires.1 (lit< tt) (lit< tt) (omega arith) refl (omega arith) (ap (λ w. bit_xor w b) c.first-label-w1.ensures ∙ at-three t x b) c.send-state.ensures.next c.send-state.ensures.words two
+    c.requires.b_bound (lit< tt) (lit< tt) (omega arith) refl (omega arith) (ap (λ w. bit_xor w b) c.first-label-w1.ensures ∙ at-three t x b) c.send-state.ensures.next c.send-state.ensures.words two
 
 pub loop-s-preserved : goal.loop-s-preserved
 loop-s-preserved g c =
@@ -26,5 +26,5 @@ loop-s-preserved g c =
     let t = address c.args.group c.args.t in
     let x = array_in c.args.array.now in
     sent-at k t x _ c.send-state-in-loop-s.new.words _ c.send-state-in-loop-s.result c.args.b (4 + c.loop-s.s) (x c.args.b c.loop-s.s) _ _ _
-    c.requires.1 (omega arith) (omega arith) (omega arith) refl (omega arith) (at_byte t x c.args.b c.loop-s.s) c.send-state-in-loop-s.ensures.next c.send-state-in-loop-s.ensures.words
+    c.requires.b_bound (omega arith) (omega arith) (omega arith) refl (omega arith) (at_byte t x c.args.b c.loop-s.s) c.send-state-in-loop-s.ensures.next c.send-state-in-loop-s.ensures.words
     c.loop-s.invariant

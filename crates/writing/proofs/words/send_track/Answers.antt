@@ -8,7 +8,7 @@ use Rattle.writing.proofs.words.send_track.Goals as goal
 pub loop-b-init : goal.loop-b-init
 loop-b-init g c =
     sent-none (code_of (g.C.LineCode.encode c.args.code.now) (g.C.LineCode.decode c.args.code.now)) (address c.args.group c.args.t) (array_in c.args.array.now)
-    c.args.words.now c.requires.2
+    c.args.words.now c.requires.words_len
 
 pub returns : goal.returns
 returns g c =

@@ -2,11 +2,16 @@ use Rattle.std.proofs.Common.{sym, ◌∙◌}
 use Rattle.channel.specs.Laws.{plain-narrow, plain-apart, plain-encode, plain-decode}
 use Rattle.channel.proofs.sheet.CheckedSheet.new.Goals as goal
 
-pub invariant-of-result : goal.invariant-of-result
-invariant-of-result c =
-    let xs = c.plain-numbers.result in
-    let p = c.plain-numbers.ensures in
-    (p.0, (plain-narrow xs p, (plain-apart xs p, (λ w l. c.plain-bytes.ensures w l ∙ sym (plain-decode xs w p), tt))))
+pub invariant_of-result : goal.invariant_of-result
+invariant_of-result c =
+    let xs = c.plain_numbers.result in
+    let p = c.plain_numbers.ensures in
+    record {
+      size = p.0;
+      narrow = plain-narrow xs p;
+      apart = plain-apart xs p;
+      inverse = λ w l. c.plain_bytes.ensures w l ∙ sym (plain-decode xs w p);
+    }
 
 pub returns : goal.returns
 returns c =

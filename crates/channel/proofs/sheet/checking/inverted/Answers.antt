@@ -10,9 +10,9 @@ loop-i-init c = (
   λ i j (il, jl, e). absurd (let no : ⊥ = omega arith in no),
 )
 
-pub returns-then-not-is-free : goal.returns-then-not-is-free
-returns-then-not-is-free c =
-    table-shared c.loop-i.bytes c.args.numbers.now c.loop-i.i c.loop-i.invariant.1 (sym c.if-not-is-free.ensures) (omega (arith, c.requires))
+pub returns-then-not-is_free : goal.returns-then-not-is_free
+returns-then-not-is_free c =
+    table-shared c.loop-i.bytes c.args.numbers.now c.loop-i.i c.loop-i.invariant.1 (sym c.if-not-is_free.ensures) (omega (arith, c.requires))
 
 pub loop-i-preserved : goal.loop-i-preserved
 loop-i-preserved c =

@@ -8,15 +8,15 @@ use Rattle.index.proofs.Reading.{place-fits}
 use Rattle.index.proofs.Coming.{there, read-coming, behind-coming}
 use Rattle.index.proofs.reader.IndexReader.next.Goals as goal
 
-pub overflow-add-self : goal.overflow-add-self
-overflow-add-self c =
+pub overflow_add-self : goal.overflow_add-self
+overflow_add-self c =
     let r = c.args.self.now in
     let p : r.place < 2 ^ 64 = search rules in
     let g : length r.group.now < 2 ^ 64 = search rules in
-    let k = named c.of-flag-kind.result in
-    let f = place-fits r.group.now r.place c.in-ok-flag.count k p g in
-    let e : c.length.result ≡ length (cond k (take c.in-ok-flag.count (drop r.place r.group.now)) []) =
-    c.length.ensures ∙ ap length (c.new-content.ensures.bytes ∙ ap (λ (x : List ℕ). cond k x []) c.part-at-bytes.ensures) in
+    let k = named c.of_flag-kind.result in
+    let f = place-fits r.group.now r.place c.in_ok-flag.count k p g in
+    let e : c.length.result ≡ length (cond k (take c.in_ok-flag.count (drop r.place r.group.now)) []) =
+    c.length.ensures ∙ ap length (c.new-content.ensures.bytes ∙ ap (λ (x : List ℕ). cond k x []) c.part_at-bytes.ensures) in
     omega arith
 
 pub returns : goal.returns

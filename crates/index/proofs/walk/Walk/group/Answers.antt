@@ -10,22 +10,28 @@ use Rattle.index.proofs.Grouping.{group-within}
 use Rattle.index.proofs.Giving.{group-number, number-below, gave}
 use Rattle.index.proofs.walk.Walk.group.Goals as goal
 
-pub invariant-of-self : goal.invariant-of-self
-invariant-of-self c =
+pub invariant_of-self : goal.invariant_of-self
+invariant_of-self c =
     let w = c.args.self.now in
-    let e = sym c.in-ok-tally.ensures in
-    let l = group-within w.number w.state w.counts c.args.group.now c.in-ok-tally.tally (omega arith) e in
-    let n = group-number w.number w.state w.counts c.args.group.now c.in-ok-tally.tally e in
-    let b = number-below c.args.group.now 126600 (λ k. omega (arith, c.type-inv.group k)) in
-    (omega (arith, n, b), (omega (arith, l.sum, w.sum), (omega (arith, l.items, w.items), (omega (arith, l.ones, w.ones), (omega (arith, l.twos, w.twos), tt)))))
+    let e = sym c.in_ok-tally.ensures in
+    let l = group-within w.number w.state w.counts c.args.group.now c.in_ok-tally.tally (omega arith) e in
+    let n = group-number w.number w.state w.counts c.args.group.now c.in_ok-tally.tally e in
+    let b = number-below c.args.group.now 126600 (λ k. omega (arith, c.type_inv.group k)) in
+    record {
+      counted = omega (arith, n, b);
+      sum = omega (arith, l.sum, w.sum);
+      items = omega (arith, l.items, w.items);
+      ones = omega (arith, l.ones, w.ones);
+      twos = omega (arith, l.twos, w.twos);
+    }
 
-pub returns-in-err-tally : goal.returns-in-err-tally
-returns-in-err-tally c =
+pub returns-in_err-tally : goal.returns-in_err-tally
+returns-in_err-tally c =
     let w = c.args.self.now in
     let g = c.args.group.now in
-    let a : c.from-residual.result ≡ answered w g = search rules in
+    let a : c.from_residual.result ≡ answered w g = search rules in
     let s : standing w ≡ standing_after w g = search rules in
-    record { answer = a; after = s; walked = gave w g c.from-residual.result (standing w) a s }
+    record { answer = a; after = s; walked = gave w g c.from_residual.result (standing w) a s }
 
 pub returns-then-last-eq1 : goal.returns-then-last-eq1
 returns-then-last-eq1 c =

@@ -24,12 +24,12 @@ close-requires c =
       twos = omega (arith, c.requires.starts.twos, c.requires.sound.room, c.requires.sound.long);
     }
 
-pub returns-in-err-close : goal.returns-in-err-close
-returns-in-err-close c =
+pub returns-in_err-close : goal.returns-in_err-close
+returns-in_err-close c =
     let i = c.loop-entry.invariant in
     let n = c.in-Some.ensures in
-    let p = err_from_is_err_and c.from-residual.result c.from-residual.ensures.1 in
-    p.1 ∙ (ap Err p.2 ∙ (c.in-err-close.ensures
+    let p = err_from_is_err_and c.from_residual.result c.from_residual.ensures.1 in
+    p.1 ∙ (ap Err p.2 ∙ (c.in_err-close.ensures
     ∙ (sym (last_turn c.args.limit c.loop-entry.number c.loop-entry.tally (cursor_of c.loop-entry.reader) (cursor_of c.next.new.self) (meant c.in-Some.entry)
     i.0 n.answer.0 n.answer.1 n.after (sym c.left.ensures ∙ c.if-left-eq0.true))
     ∙ i.1)))
@@ -60,20 +60,20 @@ step-requires c =
       part = omega arith;
     }
 
-pub returns-in-err-step : goal.returns-in-err-step
-returns-in-err-step c =
+pub returns-in_err-step : goal.returns-in_err-step
+returns-in_err-step c =
     let i = c.loop-entry.invariant in
     let n = c.in-Some.ensures in
     let d = cursor_of c.next.new.self in
-    let p = err_from_is_err_and c.from-residual-in-err-step.result c.from-residual-in-err-step.ensures.1 in
+    let p = err_from_is_err_and c.from_residual-in_err-step.result c.from_residual-in_err-step.ensures.1 in
     p.1 ∙ (ap Err p.2
-    ∙ (ap (λ (x : Result Tally IndexFault). next x (λ u. tallied c.args.limit (suc c.loop-entry.number) u (remaining d))) c.in-err-step.ensures
+    ∙ (ap (λ (x : Result Tally IndexFault). next x (λ u. tallied c.args.limit (suc c.loop-entry.number) u (remaining d))) c.in_err-step.ensures
     ∙ (sym (more_turn c.args.limit c.loop-entry.number c.loop-entry.tally (cursor_of c.loop-entry.reader) d (meant c.in-Some.entry)
     i.0 n.answer.0 n.answer.1 n.after (λ z. c.if-left-eq0.false (c.left.ensures ∙ z)))
     ∙ i.1)))
 
-pub overflow-add-number : goal.overflow-add-number
-overflow-add-number c = let i = c.loop-entry.invariant in omega (arith, c.requires.sound.room, c.requires.sound.long)
+pub overflow_add-number : goal.overflow_add-number
+overflow_add-number c = let i = c.loop-entry.invariant in omega (arith, c.requires.sound.room, c.requires.sound.long)
 
 pub loop-entry-preserved : goal.loop-entry-preserved
 loop-entry-preserved c =

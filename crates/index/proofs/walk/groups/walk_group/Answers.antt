@@ -10,33 +10,33 @@ use Rattle.index.proofs.Coming.{started-sound}
 use Rattle.index.proofs.Grouping.{table-few, table-fault, table-right, entries-walked}
 use Rattle.index.proofs.walk.groups.walk_group.Goals as goal
 
-pub returns-in-err-check : goal.returns-in-err-check
-returns-in-err-check c =
-    let p = err_from_is_err_and c.from-residual.result c.from-residual.ensures.1 in
+pub returns-in_err-check : goal.returns-in_err-check
+returns-in_err-check c =
+    let p = err_from_is_err_and c.from_residual.result c.from_residual.ensures.1 in
     p.1 ∙ (ap Err p.2
-    ∙ table-fault c.args.number c.args.state c.args.counts c.args.group.now c.read-table.result _ c.read-table.ensures c.in-err-check.ensures)
+    ∙ table-fault c.args.number c.args.state c.args.counts c.args.group.now c.read-table.result _ c.read-table.ensures c.in_err-check.ensures)
 
-pub overflow-sub-limit : goal.overflow-sub-limit
-overflow-sub-limit c = omega (arith, table-few c.args.number c.read-table.result tt (sym c.in-ok-check.ensures))
+pub overflow_sub-limit : goal.overflow_sub-limit
+overflow_sub-limit c = omega (arith, table-few c.args.number c.read-table.result tt (sym c.in_ok-check.ensures))
 
-pub walk-entries-requires : goal.walk-entries-requires
-walk-entries-requires c =
-    let f = table-few c.args.number c.read-table.result tt (sym c.in-ok-check.ensures) in
+pub walk_entries-requires : goal.walk_entries-requires
+walk_entries-requires c =
+    let f = table-few c.args.number c.read-table.result tt (sym c.in_ok-check.ensures) in
     let e = c.over-reader.ensures in
     record {
       sound = subst Sound (sym e) (started-sound c.read-table.result.entries c.args.group.now c.requires.size f);
       starts = subst (λ (x : Cursor). Starts (opened c.args.state c.args.counts) x.place) (sym e) c.requires.starts;
     }
 
-pub returns-in-err-tally : goal.returns-in-err-tally
-returns-in-err-tally c =
-    let p = err_from_is_err_and c.from-residual-in-err-tally.result c.from-residual-in-err-tally.ensures.1 in
+pub returns-in_err-tally : goal.returns-in_err-tally
+returns-in_err-tally c =
+    let p = err_from_is_err_and c.from_residual-in_err-tally.result c.from_residual-in_err-tally.ensures.1 in
     let g = c.args.group.now in
     let t = c.read-table.result in
-    let e = entries-walked c.args.number c.args.state c.args.counts g t (cursor_of c.over-reader.result) _ c.requires.size c.read-table.ensures c.over-reader.ensures c.in-err-tally.ensures in
+    let e = entries-walked c.args.number c.args.state c.args.counts g t (cursor_of c.over-reader.result) _ c.requires.size c.read-table.ensures c.over-reader.ensures c.in_err-tally.ensures in
     p.1 ∙ (ap Err p.2
     ∙ (ap (λ (x : Result Tally IndexFault). next x (λ u. totals_checked (table_in g) u)) e
-    ∙ table-right c.args.number c.args.state c.args.counts g t tt c.read-table.ensures c.in-ok-check.ensures))
+    ∙ table-right c.args.number c.args.state c.args.counts g t tt c.read-table.ensures c.in_ok-check.ensures))
 
 pub returns : goal.returns
 returns c =
