@@ -1,7 +1,7 @@
 -- A whole list of calls, one after another.
 use Rattle.std.proofs.Common.{◌≡◌, ℕ, zero, suc, ◌+◌, ◌-◌, ◌≤◌, Bool, true, false, cond, ltb, leb, List, [], ◌∷◌, ◌++◌, length, take, drop, Ok, Err, refl, ap, ◌∙◌, arith, length-take}
 use lib.ListN.{length-replicate}
-use Rattle.std.specs.List.{AllByRecursion as All}
+use Rattle.std.specs.List.{AllByRecursion}
 use Rattle.std.proofs.lemmas.Bool.{leb-true}
 use Rattle.tape.specs.Tape.{Track}
 use Rattle.layout.specs.Line.{Code}
@@ -51,7 +51,7 @@ pub record Runs (c : Code) (x : Settings) (before : List Track) (d : Desk) (l : 
   pub follows : Follows x d.held state
 
 module _ (c : Code) (x : Settings) (m : Lent) (before : List Track) where
-  pub all-run : (cs : List Call) (d : Desk) (l : Listed) → All Sends cs → Runs c x before d l
+  pub all-run : (cs : List Call) (d : Desk) (l : Listed) → AllByRecursion Sends cs → Runs c x before d l
       → Runs c x before (done_all c m cs d) (list_of l cs (answers_to c m cs d))
   unfolding answers_to done_all list_of
   all-run [] d l sm r = r

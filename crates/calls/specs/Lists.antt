@@ -1,6 +1,6 @@
 -- A whole list of calls, from making to closing.
 use Rattle.std.specs.Prelude.{◌≡◌, ℕ, List, [], ◌∷◌, length, Ok}
-use Rattle.std.specs.List.{AllByRecursion as All}
+use Rattle.std.specs.List.{AllByRecursion}
 use Rattle.tape.specs.Tape.{Track}
 use Rattle.layout.specs.Line.{Code}
 use Rattle.layout.specs.declared.settings.Settings.{Settings}
@@ -44,7 +44,7 @@ desk_made x group ts = desk (held_made x group (length ts)) ts
 
 -- a list of calls that is closed without a decline is a run, and its list follows from the calls carried out
 abbrev pub Ran : Type 0
-Ran = (c : Code) (x : Settings) (m : Lent) (group : List ℕ) (before : List Track) (cs : List Call) → All Sends cs
+Ran = (c : Code) (x : Settings) (m : Lent) (group : List ℕ) (before : List Track) (cs : List Call) → AllByRecursion Sends cs
     → checked x (length group) (length before) ≡ Ok tt → close_answer m (done_all c m cs (desk_made x group before)) ≡ Ok tt
     → Finished c x before (closed_on c m (done_all c m cs (desk_made x group before))) (groups_stored m (done_all c m cs (desk_made x group before)))
     (list_of nothing cs (answers_to c m cs (desk_made x group before))).items

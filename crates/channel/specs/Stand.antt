@@ -1,5 +1,5 @@
 use Rattle.std.specs.Prelude.{◌≡◌, ℕ, ◌+◌, ◌*◌, ◌<◌, false, List, ◌++◌, length, replicate, Some, Option, Result, slice_index}
-use Rattle.std.specs.List.{AllByRecursion as All}
+use Rattle.std.specs.List.{AllByRecursion}
 use Rattle.channel.specs.declared.state.State.{State}
 use Rattle.channel.specs.declared.fault.SheetFault.{SheetFault}
 use Rattle.channel.specs.States.{state_number}
@@ -35,15 +35,15 @@ OneVerdict = (xs : List ℕ) (q r : Result (Unit {0}) SheetFault) → SheetVerdi
 abbrev pub SeriesComeBack : Type 0
 SeriesComeBack =
     (f : State → ℕ → ℕ × State) (g : ℕ → Option ℕ) → ((s : State) (b : ℕ) → b < 256 → g (f s b).0 ≡ Some b)
-    → (s : State) (bs : List ℕ) → All (λ b. b < 256) bs
+    → (s : State) (bs : List ℕ) → AllByRecursion (λ b. b < 256) bs
     → (decode_all g (encode_all f s bs) ≡ bs) × (lost_of g (encode_all f s bs) ≡ replicate (length bs) false)
 
 -- There are as many words as bytes, each below 1,024.
 abbrev pub SeriesFit : Type 0
 SeriesFit =
     (f : State → ℕ → ℕ × State) → ((s : State) (b : ℕ) → b < 256 → (f s b).0 < 1024)
-    → (s : State) (bs : List ℕ) → All (λ b. b < 256) bs
-    → (length (encode_all f s bs) ≡ length bs) × All (λ w. w < 1024) (encode_all f s bs)
+    → (s : State) (bs : List ℕ) → AllByRecursion (λ b. b < 256) bs
+    → (length (encode_all f s bs) ≡ length bs) × AllByRecursion (λ w. w < 1024) (encode_all f s bs)
 
 -- Two series encoded one after the other, the state carried over, are the two encoded as one.
 abbrev pub SeriesJoin : Type 0

@@ -1,7 +1,7 @@
 -- A group laid into bytes is read again.
 use Rattle.std.proofs.Common.{◌≡◌, ℕ, zero, suc, ◌+◌, ◌-◌, ◌*◌, ◌/◌, ◌%◌, ◌<◌, ◌≤◌, Bool, true, false, cond, ◌&&◌, eqb, List, [], ◌∷◌, ◌++◌, length, get_or, take, drop, replicate, sym, refl, ap, ◌∙◌, subst, ap₂, subst₂, add-zero, zero-add, arith, length-append}
 use lib.ListN.{length-replicate}
-use Rattle.std.specs.List.{AllByRecursion as All}
+use Rattle.std.specs.List.{AllByRecursion}
 use Rattle.std.proofs.lemmas.List.{append-nil, append_assoc, get_or-append-add, take-append-le}
 use Rattle.index.specs.declared.kind.Kind.{Kind}
 use Rattle.index.specs.declared.kind.Kind.TheVariants.{Total, Mark, Middle, Start, Last, Entire, Skip, Unknown}
@@ -95,7 +95,7 @@ entry-back g p e at zs h f n d = λ i. record {
     bytes = ap (λ (x : Kind). cond (named x) (take (number 3 (e + 1) g) (drop at g)) []) k
         ∙ (ap₂ (λ (x : ℕ) (y : List ℕ). cond (named p.kind) (take x y) []) n d ∙ part-back p h zs)
 
-entries-back : (ps : List Entry) (g xs ys us vs : List ℕ) (i at : ℕ) → All Sound ps → g ≡ xs ++ (index_bytes ps ++ ys) → length xs + 4 * length ps ≡ i
+entries-back : (ps : List Entry) (g xs ys us vs : List ℕ) (i at : ℕ) → AllByRecursion Sound ps → g ≡ xs ++ (index_bytes ps ++ ys) → length xs + 4 * length ps ≡ i
     → g ≡ us ++ (user_bytes ps ++ vs) → at ≡ length us → read_entries g (length ps) i at ≡ ps
 unfolding read_entries index_bytes user_bytes
 entries-back [] g xs ys us vs i at s e n d a = refl
@@ -146,7 +146,7 @@ unfolding zeros
 small-zeros zero = tt
 small-zeros (suc n) = (omega arith, small-zeros n)
 
-small_bytes : (ps : List Entry) → All Sound ps → Small (user_bytes ps)
+small_bytes : (ps : List Entry) → AllByRecursion Sound ps → Small (user_bytes ps)
 unfolding user_bytes
 small_bytes [] h = tt
 small_bytes (p ∷ ps) h = small-append p.bytes (user_bytes ps) h.0.small (small_bytes ps h.1)
@@ -164,7 +164,7 @@ flag-few Unknown = omega arith
 small-entry : (p : Entry) → Sound p → Small (entry_bytes p)
 small-entry p h = (omega (arith, flag-few p.kind, h.warned), (low (p.count / 256 / 256), (low (p.count / 256), (low p.count, tt))))
 
-small-entries : (ps : List Entry) → All Sound ps → Small (index_bytes ps)
+small-entries : (ps : List Entry) → AllByRecursion Sound ps → Small (index_bytes ps)
 unfolding index_bytes
 small-entries [] h = tt
 small-entries (p ∷ ps) h = small-append (index_bytes ps) (entry_bytes p) (small-entries ps h.1) (small-entry p h.0)

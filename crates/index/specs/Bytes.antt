@@ -1,6 +1,6 @@
 -- A group as bytes: user bytes, zeros, entries with the first nearest to the table, the table.
 use Rattle.std.specs.Prelude.{◌≡◌, ℕ, zero, suc, ◌+◌, ◌-◌, ◌*◌, ◌/◌, ◌%◌, ◌<◌, ◌≤◌, Bool, true, false, cond, ◌&&◌, List, [], ◌∷◌, ◌++◌, length, take, drop, replicate, ◌==◌, slice_index}
-use Rattle.std.specs.List.{AllByRecursion as All}
+use Rattle.std.specs.List.{AllByRecursion}
 use Rattle.index.specs.declared.kind.Kind.{Kind}
 use Rattle.index.specs.declared.kind.Kind.TheVariants.{Total, Mark, Middle, Start, Last, Entire, Skip, Unknown}
 use Rattle.index.specs.Entries.{Entry, Group, used}
@@ -111,7 +111,7 @@ read_group g = record {
 
 -- bytes
 abbrev pub Small : List ℕ → Type 0
-Small bs = All (λ b. b < 256) bs
+Small bs = AllByRecursion (λ b. b < 256) bs
 
 -- an entry that four bytes can hold, and whose count is that of its bytes
 pub record Sound (p : Entry) : Type 0 where
@@ -129,7 +129,7 @@ pub record Whole (g : Group) : Type 0 where
   pub twos : g.twos < 4294967296
   pub final : g.final < 256
   pub padded : g.padded ≡ true
-  pub entries : All Sound g.entries
+  pub entries : AllByRecursion Sound g.entries
   pub fits : used g.entries + 4 * length g.entries ≤ 126600
 
 -- a group laid into bytes fills them, and is read again

@@ -1,7 +1,7 @@
 -- What a recording lays, as steps: an entry put, a group completed, a warning.
 use Rattle.std.proofs.Common.{◌≡◌, ℕ, zero, suc, ◌+◌, ◌-◌, ◌*◌, ◌<◌, ◌≤◌, Bool, true, false, cond, ◌&&◌, eqb, List, [], ◌∷◌, ◌++◌, length, sym, refl, ap, ◌∙◌, subst, add-zero, arith}
 use Rattle.std.proofs.lemmas.List.{append-nil, append_assoc}
-use Rattle.std.specs.List.{AllByRecursion as All}
+use Rattle.std.specs.List.{AllByRecursion}
 use Rattle.index.specs.declared.kind.Kind.{Kind}
 use Rattle.index.specs.declared.kind.Kind.TheVariants.{Total, Mark, Middle, Start, Last, Entire, Skip, Unknown}
 use Rattle.index.specs.Entries.{Entry, Item, Group, used, finishes, marks, Numbered}
@@ -46,11 +46,11 @@ laid-warned (warns i) = omega arith
 
 -- ---- groups that bytes hold
 
-pub all_snoc : {A : Type 0} (P : A → Type 0) (xs : List A) (x : A) → All P xs → P x → All P (xs ++ (x ∷ []))
+pub all_snoc : {A : Type 0} (P : A → Type 0) (xs : List A) (x : A) → AllByRecursion P xs → P x → AllByRecursion P (xs ++ (x ∷ []))
 all_snoc P [] x a h = (h, tt)
 all_snoc P (y ∷ xs) x a h = (a.0, all_snoc P xs x a.1 h)
 
-pub laid-sound : {s : Recording} {st : Position} {l : List Item} → Laid s st l → All Sound s.open'
+pub laid-sound : {s : Recording} {st : Position} {l : List Item} → Laid s st l → AllByRecursion Sound s.open'
 laid-sound (fresh g) = tt
 laid-sound (putting {s = s} p i f o h) = all_snoc Sound s.open' p (laid-sound i) o
 laid-sound (completing i c) = tt
@@ -101,7 +101,7 @@ stored-whole {s = s} final fi i h =
       fits = omega (arith, used-snoc s.open' sk, length-snoc s.open' sk);
     }
 
-pub laid-whole : {s : Recording} {st : Position} {l : List Item} → Laid s st l → current s ≤ 65536 → All Whole s.done
+pub laid-whole : {s : Recording} {st : Position} {l : List Item} → Laid s st l → current s ≤ 65536 → AllByRecursion Whole s.done
 laid-whole (fresh g) h = tt
 laid-whole (putting p i f o b) h = laid-whole i h
 laid-whole (completing {s = s} i c) h =
@@ -109,7 +109,7 @@ laid-whole (completing {s = s} i c) h =
     all_snoc Whole s.done (stored 0 s) (laid-whole i (omega arith)) (stored-whole 0 (omega arith) i n)
 laid-whole (warns i) h = laid-whole i h
 
-pub laid_on : {s : Recording} {st : Position} {l : List Item} → Laid s st l → All (λ (g : Group). g.final ≡ 0) s.done
+pub laid_on : {s : Recording} {st : Position} {l : List Item} → Laid s st l → AllByRecursion (λ (g : Group). g.final ≡ 0) s.done
 laid_on (fresh g) = tt
 laid_on (putting p i f o b) = laid_on i
 laid_on (completing {s = s} i c) = all_snoc (λ (g : Group). g.final ≡ 0) s.done (stored 0 s) (laid_on i) refl

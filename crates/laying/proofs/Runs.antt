@@ -9,7 +9,7 @@ use Rattle.laying.proofs.Lays.{Inv, stored-walks}
 use Rattle.laying.proofs.Laid.{Laid, Laid.fresh, Laid.warns, laid-inv, Grown, same-grown, laid-whole, laid_on, stored-whole, all_snoc}
 use Rattle.index.proofs.Walks.{groups-snoc, length-snoc}
 use Rattle.index.proofs.Reread.{reread}
-use Rattle.std.specs.List.{AllByRecursion as All}
+use Rattle.std.specs.List.{AllByRecursion}
 use Rattle.index.specs.Bytes.{Whole, Small, group_of, read_group}
 use Rattle.laying.proofs.Records.{Ended, record-inv, mark-inv}
 
@@ -75,7 +75,7 @@ once r c sm k =
 one : (r : Running) (c : ℕ × Call) → Sends c.1 → Kept r → Kept (called r c)
 one r c sm k = (once r c sm k).kept
 
-all : (cs : List (ℕ × Call)) (r : Running) → All (λ c. Sends c.1) cs → Kept r → Kept (ran r cs)
+all : (cs : List (ℕ × Call)) (r : Running) → AllByRecursion (λ c. Sends c.1) cs → Kept r → Kept (ran r cs)
 unfolding ran
 all [] r sm k = k
 all (c ∷ cs) r sm k = all cs (called r c) sm.1 (one r c sm.0 k)
@@ -99,17 +99,17 @@ faithful g cs sm h =
       within = k.within;
     }
 
-read_all : (gs : List Group) → All Whole gs → map read_group (map group_of gs) ≡ gs
+read_all : (gs : List Group) → AllByRecursion Whole gs → map read_group (map group_of gs) ≡ gs
 read_all [] h = refl
 read_all (g ∷ gs) h = ap₂ (λ (x : Group) (y : List Group). x ∷ y) (reread g h.0).1 (read_all gs h.1)
 
 -- the limit stays
-limits : (cs : List (ℕ × Call)) (r : Running) → All (λ c. Sends c.1) cs → Kept r → (ran r cs).state.limit ≡ r.state.limit
+limits : (cs : List (ℕ × Call)) (r : Running) → AllByRecursion (λ c. Sends c.1) cs → Kept r → (ran r cs).state.limit ≡ r.state.limit
 unfolding ran
 limits [] r sm k = refl
 limits (c ∷ cs) r sm k = limits cs (called r c) sm.1 (one r c sm.0 k) ∙ (once r c sm.0 k).limit
 
-pub closed-whole : (r : Running) → Kept r → r.state.limit ≤ 65535 → All Whole (closed r.state)
+pub closed-whole : (r : Running) → Kept r → r.state.limit ≤ 65535 → AllByRecursion Whole (closed r.state)
 closed-whole r k b =
     let s : Recording = r.state in
     let h : current s < 65536 = omega (arith, k.within) in

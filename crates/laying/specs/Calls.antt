@@ -2,7 +2,7 @@
 use Rattle.std.specs.Prelude.{◌≡◌, ℕ, zero, suc, ◌+◌, ◌-◌, ◌*◌, ◌≤◌, Bool, true, false, cond, ◌&&◌, ◌||◌, List, [], ◌∷◌, ◌++◌, map, length, Ok, Err, Result, ◌==◌, nat_lt}
 use Rattle.index.specs.Entries.{Item, Entry, Group, used}
 use Rattle.index.specs.Walk.{Position, Position.idle, Walk, Between, walk, walk_groups, of_kind}
-use Rattle.std.specs.List.{AllByRecursion as All}
+use Rattle.std.specs.List.{AllByRecursion}
 use Rattle.laying.specs.Lay.{Recording, lay_mark, lay_record, record_ends, mark_ends, current, stored, Finishes}
 use Rattle.index.specs.Bytes.{Whole, Small, group_of, read_group}
 
@@ -83,7 +83,7 @@ pub record Holds (s : Recording) (l : Listed) : Type 0 where
 
 -- after any calls, carried out or declined
 abbrev pub Faithful : Type 0
-Faithful = (g : ℕ) (cs : List (ℕ × Call)) → All (λ c. Sends c.1) cs → 1 ≤ g → Holds (ran (begin g) cs).state (ran (begin g) cs).list
+Faithful = (g : ℕ) (cs : List (ℕ × Call)) → AllByRecursion (λ c. Sends c.1) cs → 1 ≤ g → Holds (ran (begin g) cs).state (ran (begin g) cs).list
 
 -- the groups of a recording that is closed
 abbrev pub closed : Recording → List Group
@@ -98,12 +98,12 @@ pub record Closes (s : Recording) (l : Listed) : Type 0 where
   pub read : map read_group (groups_of s) ≡ closed s
   pub walked : walk_groups 1 (record { position = idle; items = [] }) (closed s) ≡ Ok (record { position = idle; items = l.items })
   pub number : length (closed s) ≤ s.limit
-  pub on : All (λ g. g.final ≡ 0) s.done
+  pub on : AllByRecursion (λ g. g.final ≡ 0) s.done
 
 abbrev pub Recorded : Type 0
-Recorded = (g : ℕ) (cs : List (ℕ × Call)) → All (λ c. Sends c.1) cs → 1 ≤ g → g ≤ 65535 → Closes (ran (begin g) cs).state (ran (begin g) cs).list
+Recorded = (g : ℕ) (cs : List (ℕ × Call)) → AllByRecursion (λ c. Sends c.1) cs → 1 ≤ g → g ≤ 65535 → Closes (ran (begin g) cs).state (ran (begin g) cs).list
 
 -- the last entry of a record stands in the group that was predicted, which is then the open one
 abbrev pub Predicted : Type 0
-Predicted = (g : ℕ) (cs : List (ℕ × Call)) (bs : List ℕ) → All (λ c. Sends c.1) cs → Small bs → 1 ≤ g → 1 ≤ length bs → length bs ≤ 16777215
+Predicted = (g : ℕ) (cs : List (ℕ × Call)) (bs : List ℕ) → AllByRecursion (λ c. Sends c.1) cs → Small bs → 1 ≤ g → 1 ≤ length bs → length bs ≤ 16777215
     → (current (lay_record bs (ran (begin g) cs).state) ≡ record_ends (length bs) (ran (begin g) cs).state) × Finishes (lay_record bs (ran (begin g) cs).state)

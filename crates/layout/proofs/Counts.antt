@@ -1,6 +1,6 @@
 -- Laws of tests over the numbers below a bound.
 use Rattle.std.proofs.Common.{◌≡◌, ℕ, zero, suc, ◌+◌, ◌<◌, ◌≤◌, Bool, true, false, cond, ◌≢◌, ◌⊎◌, List, [], ◌∷◌, map, length, get_or, sym, refl, ap, ◌∙◌, subst, ap₂, inl, inr, le_of_suc-le-suc, not-suc-le-zero, eq-or-lt_of_le, arith}
-use Rattle.std.specs.List.{AllByRecursion as All, range_with_len}
+use Rattle.std.specs.List.{AllByRecursion, range_with_len}
 use Rattle.std.proofs.ByRecursion.{All-map}
 use Rattle.std.proofs.lemmas.Bool.{and_parts, and_from, both_ways}
 use Rattle.reed_solomon.specs.Words.{Distinct}
@@ -32,16 +32,16 @@ module _ (f : ℕ → Bool) where
       go true e = omega (arith, e)
       go false e = omega (arith, e)
 
-  pub which-below : (n k : ℕ) → n ≤ k → All (λ p. p < k) (which f n)
+  pub which-below : (n k : ℕ) → n ≤ k → AllByRecursion (λ p. p < k) (which f n)
   unfolding which
   which-below zero k h = tt
   which-below (suc n) k h = go (f n) (which-below n k (omega arith))
     where
-      go : (t : Bool) → All (λ p. p < k) (which f n) → All (λ p. p < k) (cond t (n ∷ which f n) (which f n))
+      go : (t : Bool) → AllByRecursion (λ p. p < k) (which f n) → AllByRecursion (λ p. p < k) (cond t (n ∷ which f n) (which f n))
       go true a = (h, a)
       go false a = a
 
-  apart : (n : ℕ) (ps : List ℕ) → All (λ p. p < n) ps → All (λ p. p ≢ n) ps
+  apart : (n : ℕ) (ps : List ℕ) → AllByRecursion (λ p. p < n) ps → AllByRecursion (λ p. p ≢ n) ps
   apart n [] a = tt
   apart n (p ∷ ps) a = (let l : p < n = a.0 in λ e. omega arith, apart n ps a.1)
 
@@ -50,18 +50,18 @@ module _ (f : ℕ → Bool) where
   which-distinct zero = tt
   which-distinct (suc n) = go (f n) (apart n (which f n) (which-below n n (omega arith))) (which-distinct n)
     where
-      go : (t : Bool) → All (λ p. p ≢ n) (which f n) → Distinct (which f n) → Distinct (cond t (n ∷ which f n) (which f n))
+      go : (t : Bool) → AllByRecursion (λ p. p ≢ n) (which f n) → Distinct (which f n) → Distinct (cond t (n ∷ which f n) (which f n))
       go true a d = (a, d)
       go false a d = d
 
   -- what is not listed fails the test
-  pub which-else : (n k : ℕ) → k < n → All (λ p. k ≢ p) (which f n) → f k ≡ false
+  pub which-else : (n k : ℕ) → k < n → AllByRecursion (λ p. k ≢ p) (which f n) → f k ≡ false
   unfolding which
   which-else zero k h a = absurd (not-suc-le-zero h)
   which-else (suc n) k h a = go (f n) refl a (eq-or-lt_of_le (le_of_suc-le-suc h)) (which-else n k)
     where
-      go : (t : Bool) → f n ≡ t → All (λ p. k ≢ p) (cond t (n ∷ which f n) (which f n)) → (k ≡ n) ⊎ (k < n)
-          → (k < n → All (λ p. k ≢ p) (which f n) → f k ≡ false) → f k ≡ false
+      go : (t : Bool) → f n ≡ t → AllByRecursion (λ p. k ≢ p) (cond t (n ∷ which f n) (which f n)) → (k ≡ n) ⊎ (k < n)
+          → (k < n → AllByRecursion (λ p. k ≢ p) (which f n) → f k ≡ false) → f k ≡ false
       go true e a (inl i) ih = absurd (a.0 i)
       go true e a (inr l) ih = ih l a.1
       go false e a (inl i) ih = ap f i ∙ e
@@ -78,12 +78,12 @@ module _ (f : ℕ → Bool) where
       go false e z (inr l) ih = ih (omega (arith, z)) l
 
   -- what fails the test is not listed
-  pub which-not : (n k : ℕ) → f k ≡ false → All (λ p. k ≢ p) (which f n)
+  pub which-not : (n k : ℕ) → f k ≡ false → AllByRecursion (λ p. k ≢ p) (which f n)
   unfolding which
   which-not zero k e = tt
   which-not (suc n) k e = go (f n) refl (which-not n k e)
     where
-      go : (t : Bool) → f n ≡ t → All (λ p. k ≢ p) (which f n) → All (λ p. k ≢ p) (cond t (n ∷ which f n) (which f n))
+      go : (t : Bool) → f n ≡ t → AllByRecursion (λ p. k ≢ p) (which f n) → AllByRecursion (λ p. k ≢ p) (cond t (n ∷ which f n) (which f n))
       go true i a = (λ q. both_ways (f n) (ap f (sym q) ∙ e) i, a)
       go false i a = a
 
@@ -109,7 +109,7 @@ count-more f g (suc n) h = go (f n) (g n) (h n (omega arith)) (count-more f g n 
 
 -- ---- a list made from a function
 
-pub all-counting : (P : ℕ → Type 0) (a n : ℕ) → ((k : ℕ) → a ≤ k → k < a + n → P k) → All P (range_with_len a n)
+pub all-counting : (P : ℕ → Type 0) (a n : ℕ) → ((k : ℕ) → a ≤ k → k < a + n → P k) → AllByRecursion P (range_with_len a n)
 all-counting P a zero h = tt
 all-counting P a (suc n) h = (h a (omega arith) (omega arith), all-counting P (a + 1) n (λ k l m. h k (omega arith) (omega arith)))
 
@@ -129,6 +129,6 @@ pub listed_same : (f g : ℕ → ℕ) (n : ℕ) → ((k : ℕ) → k < n → f k
 unfolding listed
 listed_same f g n h = map_same f g 0 n (λ k l m. h k (omega arith))
 
-pub all_listed : (P : ℕ → Type 0) (f : ℕ → ℕ) (n : ℕ) → ((k : ℕ) → k < n → P (f k)) → All P (listed f n)
+pub all_listed : (P : ℕ → Type 0) (f : ℕ → ℕ) (n : ℕ) → ((k : ℕ) → k < n → P (f k)) → AllByRecursion P (listed f n)
 unfolding listed
 all_listed P f n h = All-map P f (range_with_len 0 n) (all-counting (λ k. P (f k)) 0 n (λ k l m. h k (omega arith)))

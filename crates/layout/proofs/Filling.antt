@@ -1,7 +1,7 @@
 -- Filling gives the one word that checks, if there is one.
 use Rattle.std.proofs.Common.{◌≡◌, ℕ, zero, suc, ◌<◌, ◌≤◌, Bool, true, false, cond, eqb, ◌≢◌, ◌⊎◌, List, [], ◌∷◌, length, get_or, set, Some, None, Option, sym, refl, ap, ◌∙◌, subst, inl, inr, le_of_suc-le-suc, not-suc-le-zero, eq-or-lt_of_le, arith, length-set, get_or-set_other, get_or-set_same}
 use native.Mathlib.Decide.{ℕ_discrete}
-use Rattle.std.specs.List.{AllByRecursion as All}
+use Rattle.std.specs.List.{AllByRecursion}
 use Rattle.std.proofs.lemmas.List.{ext_get_or}
 use Rattle.std.proofs.ByRecursion.{All-set}
 use Rattle.std.proofs.lemmas.Bool.{eqb-true, eq-eqb, cond-true}
@@ -52,7 +52,7 @@ wider p v ps b u o = record {
 narrower : (p : ℕ) (ps b u : List ℕ) → p < length b → Off (p ∷ ps) b u → Off ps (set b p (get_or u p 0)) u
 narrower p ps b u hp o = record { size = length-set b p (get_or u p 0) ∙ o.size; same = agree }
   where
-    agree : (k : ℕ) → k < length (set b p (get_or u p 0)) → All (λ q. k ≢ q) ps → get_or (set b p (get_or u p 0)) k 0 ≡ get_or u k 0
+    agree : (k : ℕ) → k < length (set b p (get_or u p 0)) → AllByRecursion (λ q. k ≢ q) ps → get_or (set b p (get_or u p 0)) k 0 ≡ get_or u k 0
     agree k h a = go (ℕ_discrete k p)
       where
         go : Dec (k ≡ p) → get_or (set b p (get_or u p 0)) k 0 ≡ get_or u k 0
@@ -73,14 +73,14 @@ sound r (p ∷ ps) b u hb e =
     let s = sound r ps (set b p k.0) u (All-set (λ x. x < 256) b p k.0 k.1 hb) k.2 in
     (s.0, wider p k.0 ps b u s.1, s.2)
 
-pub complete : (r : ℕ) (ps b u : List ℕ) → All (λ p. p < length b) ps → Bytes u → Off ps b u → Checks r u → (y : List ℕ) × (filling r ps b ≡ Some y)
+pub complete : (r : ℕ) (ps b u : List ℕ) → AllByRecursion (λ p. p < length b) ps → Bytes u → Off ps b u → Checks r u → (y : List ℕ) × (filling r ps b ≡ Some y)
 unfolding filling
 complete r [] b u w hu o ch =
     let s : u ≡ b = sym (ext_get_or 0 b u o.size (λ k h. o.same k h tt)) in
     (b, cond-true (checks r b) (Some b) None (checks-from r b (subst (Checks r) s ch)))
 complete r (p ∷ ps) b u w hu o ch =
     let v : ℕ = get_or u p 0 in
-    let y = complete r ps (set b p v) u (subst (λ n. All (λ q. q < n) ps) (sym (length-set b p v)) w.1) hu (narrower p ps b u w.0 o) ch in
+    let y = complete r ps (set b p v) u (subst (λ n. AllByRecursion (λ q. q < n) ps) (sym (length-set b p v)) w.1) hu (narrower p ps b u w.0 o) ch in
     any-hit (λ v. filling r ps (set b p v)) 256 v y.0 (byte-at u hu p) y.1
 
 -- two words off b at the same places are off each other there

@@ -1,6 +1,6 @@
 -- Two bad tracks among 46.
 use Rattle.std.proofs.Common.{◌≡◌, ℕ, zero, suc, ◌+◌, ◌-◌, ◌*◌, ◌/◌, ◌%◌, ◌<◌, ◌≤◌, Bool, true, false, cond, ◌&&◌, eqb, ltb, leb, ◌≢◌, ◌⊎◌, List, [], ◌∷◌, ◌++◌, length, get_or, drop, Some, None, Option, sym, refl, ap, ◌∙◌, ap₂, subst₂, inl, inr, arith}
-use Rattle.std.specs.List.{AllByRecursion as All}
+use Rattle.std.specs.List.{AllByRecursion}
 use Rattle.std.proofs.lemmas.List.{drop_all, drop-drop, take-append-drop}
 use Rattle.std.proofs.lemmas.Bool.{and_parts, and_from, and_right, and_left, eqb-true, cases_Bool, both_ways, cases_eq, le-leb, lt-ltb, leb-true, ltb-true, cond_both}
 use Rattle.reed_solomon.specs.Words.{Checks, Bytes, Off}
@@ -132,7 +132,7 @@ module _ (tap start : ℕ) (group : List ℕ) (x : ℕ → Array) (o : ℕ → O
         off : Off (which bad 46) u (listed g 46)
         off = record { size = len ∙ sym (length-listed g 46); same = agree }
           where
-            agree : (k : ℕ) → k < length u → All (λ p. k ≢ p) (which bad 46) → get_or u k 0 ≡ get_or (listed g 46) k 0
+            agree : (k : ℕ) → k < length u → AllByRecursion (λ p. k ≢ p) (which bad 46) → get_or u k 0 ≡ get_or (listed g 46) k 0
             agree k h a =
                 let hk : k < 46 = omega (arith, len) in
                 let b : bad k ≡ false = which-else bad 46 k hk a in

@@ -1,7 +1,7 @@
 -- A lightly damaged track reads as it was written.
 use Rattle.std.proofs.Common.{◌≡◌, ℕ, zero, suc, ◌+◌, ◌*◌, ◌/◌, ◌%◌, ◌<◌, ◌≤◌, Bool, true, false, not, ◌&&◌, ◌||◌, eqb, ltb, leb, List, [], ◌∷◌, map, length, get_or, Some, None, Option, sym, refl, ap, ◌∙◌, subst, subst₂, inl, inr, arith}
 use lib.Bits.{bit_xor}
-use Rattle.std.specs.List.{range_with_len, AllByRecursion as All}
+use Rattle.std.specs.List.{range_with_len, AllByRecursion}
 use Rattle.std.proofs.ByRecursion.{All-append, All-map}
 use Rattle.std.proofs.lemmas.Bool.{and_parts, and_from, and_cases, or_from, eqb-true, eqb-false, eq-eqb, le-leb, ltb-false, leb-false, cond-true, cond_both, cases_Bool, both_ways, not-true, not-false, not_from_true, not_from_false}
 use Rattle.reed_solomon.specs.Words.{Checks, Places, Off}
@@ -205,7 +205,7 @@ module _ (c : Code) (t : Address) (x : Array) (w : ℕ → ℕ) (lawful : Lawful
 
   -- ---- the track
 
-  judged-all : (ps : List (ℕ × ℕ)) → All (λ p. (p.0 < 4) × (p.1 < wide p.0)) ps → Reading.judged (Reading.erased c t w) (Reading.value c t w) t.frame ps ≡ Reading.judged (Reading.erased c t w) (Reading.value c t w) t.frame []
+  judged-all : (ps : List (ℕ × ℕ)) → AllByRecursion (λ p. (p.0 < 4) × (p.1 < wide p.0)) ps → Reading.judged (Reading.erased c t w) (Reading.value c t w) t.frame ps ≡ Reading.judged (Reading.erased c t w) (Reading.value c t w) t.frame []
   unfolding Reading.judged
   judged-all [] a = refl
   judged-all (p ∷ ps) a =
@@ -226,7 +226,7 @@ occupied-wide b s hs o =
 abbrev pub IsWord : ℕ × ℕ → Type 0
 IsWord p = (p.0 < 4) × (p.1 < wide p.0)
 
-pub words-from : (m k : ℕ) → m + k ≤ 4 → All IsWord (words_from m k)
+pub words-from : (m k : ℕ) → m + k ≤ 4 → AllByRecursion IsWord (words_from m k)
 unfolding words_from
 words-from m zero h = tt
 words-from m (suc k) h =

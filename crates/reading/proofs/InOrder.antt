@@ -1,6 +1,6 @@
 -- C2 words filled one after another.
 use Rattle.std.proofs.Common.{◌≡◌, ℕ, zero, suc, ◌+◌, ◌-◌, ◌*◌, ◌/◌, ◌%◌, ◌<◌, ◌≤◌, Bool, true, false, cond, not, ◌&&◌, ◌||◌, eqb, ltb, leb, ◌⊎◌, List, [], ◌∷◌, ◌++◌, map, length, get_or, Option, sym, refl, ap, ◌∙◌, subst, ap₂, subst₂, inl, inr, arith}
-use Rattle.std.specs.List.{range_with_len, AllByRecursion as All}
+use Rattle.std.specs.List.{range_with_len, AllByRecursion}
 use Rattle.std.proofs.lemmas.Bool.{cond-true, cond-false, cond_both, eqb-true, eqb-false, eq-eqb, ne_eqb, lt-ltb, le-ltb, ltb-true, ltb-false, cases_Bool, and_parts, and_from, and_left, and_right, or_from, or_left, or_right, cases_lt, cases_eq}
 use Rattle.layout.specs.Counts.{listed, which}
 use Rattle.layout.specs.Placing.{block_at, serial_at}
@@ -158,7 +158,7 @@ module _ (isErased other : ℕ → ℕ → Bool) (x y : Array) (same-erased : (b
   unfolding corrected
   like-corrected b s hs = ap (byte_at (b / 4)) (like-filled (b % 4) s (omega arith) hs)
 
-  like-judged : (f : ℕ) (ps : List (ℕ × ℕ)) → All (λ p. (p.0 < 4) × (p.1 < wide p.0)) ps → judged isErased x f ps ≡ judged other y f ps
+  like-judged : (f : ℕ) (ps : List (ℕ × ℕ)) → AllByRecursion (λ p. (p.0 < 4) × (p.1 < wide p.0)) ps → judged isErased x f ps ≡ judged other y f ps
   unfolding judged row
   like-judged f [] a =
       ap₂ (λ (r : List ℕ) (t : Bool). cond t (read r) (lost 4 0 0))

@@ -1,7 +1,7 @@
 -- Lists that a loop fills, and the lost places of a word.
 use Rattle.std.proofs.Common.{◌≡◌, ℕ, zero, suc, ◌+◌, ◌-◌, ◌*◌, ◌<◌, ◌≤◌, Bool, true, false, cond, not, ◌&&◌, ◌||◌, eqb, List, [], ◌∷◌, length, get_or, drop, set, Option, sym, refl, ap, ◌∙◌, subst, ap₂, add-one, arith}
 use lib.Bits.{bit_xor}
-use Rattle.std.specs.List.{AllByRecursion as All}
+use Rattle.std.specs.List.{AllByRecursion}
 use Rattle.std.proofs.lemmas.List.{drop-set}
 use Rattle.std.proofs.lemmas.Bool.{cond_both}
 use Rattle.std.proofs.lemmas.List.Edits.{fill_by_more}
@@ -32,7 +32,7 @@ which-more f size j k r out out' hj hk hs e er ed = (
 
 pub which-places : (f : ℕ → Bool) (size : ℕ) (ps : List ℕ) → ps ≡ which f size → Places size ps
 which-places f size ps e = record {
-  within = subst (All (λ p. p < size)) (sym e) (which-below f size size (omega arith));
+  within = subst (AllByRecursion (λ p. p < size)) (sym e) (which-below f size size (omega arith));
   once = subst Distinct (sym e) (which-distinct f size);
 }
 

@@ -1,6 +1,6 @@
 -- What holds of every reading.
 use Rattle.std.proofs.Common.{◌≡◌, ℕ, ◌+◌, ◌/◌, ◌%◌, ◌<◌, ◌≤◌, Bool, true, false, cond, ◌&&◌, eqb, leb, ◌⊎◌, List, [], ◌∷◌, length, Some, None, Option, sym, refl, ap, ◌∙◌, subst, inl, inr, arith}
-use Rattle.std.specs.List.{AllByRecursion as All}
+use Rattle.std.specs.List.{AllByRecursion}
 use Rattle.std.proofs.lemmas.Bool.{cond_both, eqb-false}
 use Rattle.tape.specs.Tape.{Track}
 use Rattle.layout.specs.Words.{Array, wide, row, frame_byte}
@@ -35,7 +35,7 @@ module _ (isErased : ℕ → ℕ → Bool) (x : Array) where
       cond_both (eqb (cause isErased x p.0 p.1) 0) (judged isErased x f ps) (lost (cause isErased x p.0 p.1) p.0 p.1)
       (λ o. cause_number (loss_row o).cause ≡ outcome_number o) (λ _. number_is f ps) (λ e. cause-back p.0 p.1 (eqb-false (cause isErased x p.0 p.1) 0 e))
 
-  word-is : (f : ℕ) (ps : List (ℕ × ℕ)) → All (λ p. (p.0 < 4) × (p.1 < wide p.0)) ps
+  word-is : (f : ℕ) (ps : List (ℕ × ℕ)) → AllByRecursion (λ p. (p.0 < 4) × (p.1 < wide p.0)) ps
       → ((loss_row (judged isErased x f ps)).m < 4) × ((loss_row (judged isErased x f ps)).n < 32)
   unfolding judged
   word-is f [] a =

@@ -5,7 +5,7 @@ use lib.ListN.{length-map}
 use Rattle.index.specs.Bytes.{Small}
 use Rattle.layout.specs.Line.{Code}
 use Rattle.runs.specs.Run.{Lent}
-use Rattle.std.specs.List.{AllByRecursion as All}
+use Rattle.std.specs.List.{AllByRecursion}
 use Rattle.laying.specs.Calls.{Call, Sends}
 use Rattle.calls.specs.Declines.{Answer}
 use Rattle.calls.specs.Laying.{Desk}
@@ -20,7 +20,7 @@ pub record Going (c : Code) (m : Lent) (i : ℕ) (list now : List Asked) (d e : 
   pub answers : take i (answers_of now) ++ answers_to c m (drop i (calls_of list)) e ≡ answers_to c m (calls_of list) d
   pub bench : spent_all c m (drop i (calls_of list)) e b' ≡ spent_all c m (calls_of list) d b
   pub buffer : spent_all c m (drop i (calls_of list)) e f' ≡ spent_all c m (calls_of list) d f
-  pub sends : All Sends (take i (calls_of list))
+  pub sends : AllByRecursion Sends (take i (calls_of list))
 
 one_more : (i : ℕ) → suc i ≡ i + 1
 one_more i = omega arith
@@ -46,7 +46,7 @@ answers-answered [] i y h = absurd (omega arith)
 answers-answered (a ∷ l) zero y h = refl
 answers-answered (a ∷ l) (suc i) y h = ap (λ (k : List Answer). a.answer ∷ k) (answers-answered l i y (omega arith))
 
-sends_more : (cs : List Call) (i : ℕ) (a : Call) (rest : List Call) → drop i cs ≡ a ∷ rest → All Sends (take i cs) → Sends a → All Sends (take (suc i) cs)
+sends_more : (cs : List Call) (i : ℕ) (a : Call) (rest : List Call) → drop i cs ≡ a ∷ rest → AllByRecursion Sends (take i cs) → Sends a → AllByRecursion Sends (take (suc i) cs)
 sends_more [] zero a rest e h s = tt
 sends_more [] (suc i) a rest e h s = tt
 sends_more (b ∷ cs) zero a rest e h s = (subst Sends (sym (ap (λ (l : List Call). get_or l 0 a) e)) s, tt)
@@ -93,7 +93,7 @@ pub record Gone (c : Code) (m : Lent) (list now : List Asked) (d e : Desk) (b b'
   pub answers : answers_of now ≡ answers_to c m (calls_of list) d
   pub bench : b' ≡ spent_all c m (calls_of list) d b
   pub buffer : f' ≡ spent_all c m (calls_of list) d f
-  pub sends : All Sends (calls_of list)
+  pub sends : AllByRecursion Sends (calls_of list)
 
 long-calls : (l : List Asked) → length (calls_of l) ≡ length l
 unfolding calls_of
@@ -118,7 +118,7 @@ going-ends c m i list now d e b b' f f' t h = record {
       sym (ap₂ ◌++◌ (take_all i (answers_of now) (omega (arith, long-answers now))) (ap (λ (k : List Call). answers_to c m k e) none) ∙ append-nil (answers_of now)) ∙ t.answers;
   bench = sym (ap (λ (k : List Call). spent_all c m k e b') none) ∙ t.bench;
   buffer = sym (ap (λ (k : List Call). spent_all c m k e f') none) ∙ t.buffer;
-  sends = subst (λ (k : List Call). All Sends k) (take_all i (calls_of list) (omega (arith, long-calls now, ap length t.calls))) t.sends;
+  sends = subst (λ (k : List Call). AllByRecursion Sends k) (take_all i (calls_of list) (omega (arith, long-calls now, ap length t.calls))) t.sends;
 }
   where
     none : drop i (calls_of list) ≡ []

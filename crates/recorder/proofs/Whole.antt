@@ -1,7 +1,7 @@
 -- A whole list of calls: the lent memory after it, and the run that it is.
 use Rattle.std.proofs.Common.{◌≡◌, ℕ, List, [], ◌∷◌, length, replicate, Some, None, Ok, Err, Option, sym, refl, ap, ◌∙◌, subst, ap₂}
 use lib.ListN.{length-replicate}
-use Rattle.std.specs.List.{AllByRecursion as All}
+use Rattle.std.specs.List.{AllByRecursion}
 use Rattle.tape.specs.Tape.{Track}
 use Rattle.layout.specs.Line.{Code}
 use Rattle.layout.specs.declared.settings.Settings.{Settings}
@@ -55,7 +55,7 @@ carried-out (Err x) e = absurd (some-none e)
 
 -- a list of calls that is closed without a decline is a run
 pub whole_run : (c : Code) (x : Settings) (m : Lent) (group : List ℕ) (before after : List Track) (cs es : List Call) (rs : List Answer) (n : ℕ) (o : Option Decline)
-    → All Sends cs → es ≡ cs → rs ≡ answers_to c m cs (desk_made x group before) → after ≡ closed_on c m (done_all c m cs (desk_made x group before))
+    → AllByRecursion Sends cs → es ≡ cs → rs ≡ answers_to c m cs (desk_made x group before) → after ≡ closed_on c m (done_all c m cs (desk_made x group before))
     → n ≡ groups_stored m (done_all c m cs (desk_made x group before)) → o ≡ decline_of (close_answer m (done_all c m cs (desk_made x group before)))
     → checked x (length group) (length before) ≡ Ok tt → o ≡ None → Finished c x before after n (list_of nothing es rs).items
 whole_run c x m group before after cs es rs n o s p q t g d h e =

@@ -3,7 +3,7 @@ use Rattle.std.proofs.Common.{◌≡◌, ℕ, zero, suc, ◌-◌, ◌<◌, ◌�
 use native.Mathlib.Decide.{ℕ_discrete, dec_lt}
 use lib.Bits.{bit_xor, xor_lt, xor_self, xor_zero_r, xor_assoc}
 use lib.Seq.{set-get_or}
-use Rattle.std.specs.List.{AllByRecursion as All}
+use Rattle.std.specs.List.{AllByRecursion}
 use Rattle.std.proofs.lemmas.List.{ext_get_or, length-map}
 use Rattle.galois.specs.Galois.{alpha}
 use Rattle.reed_solomon.specs.Steps.{vsum, patch}
@@ -23,14 +23,14 @@ module _ (p : ℕ) (ps u v : List ℕ) (off : Off (p ∷ ps) u v) (hp : p < leng
   closer : Off ps (set u p (get_or v p 0)) v
   closer = record { size = length-set u p (get_or v p 0) ∙ off.size; same = agree }
     where
-      agree : (k : ℕ) → k < length (set u p (get_or v p 0)) → All (λ q. k ≢ q) ps → get_or (set u p (get_or v p 0)) k 0 ≡ get_or v k 0
+      agree : (k : ℕ) → k < length (set u p (get_or v p 0)) → AllByRecursion (λ q. k ≢ q) ps → get_or (set u p (get_or v p 0)) k 0 ≡ get_or v k 0
       agree k h a = go (ℕ_discrete k p)
         where
           go : Dec (k ≡ p) → get_or (set u p (get_or v p 0)) k 0 ≡ get_or v k 0
           go (yes e) = subst (λ j. get_or (set u p (get_or v p 0)) j 0 ≡ get_or v j 0) (sym e) (get_or-set_same u p (get_or v p 0) 0 hp)
           go (no n) = get_or-set_other u p k (get_or v p 0) 0 n ∙ off.same k (subst (λ m. k < m) (length-set u p (get_or v p 0)) h) (n, a)
 
-  same-differences : (qs : List ℕ) → All (λ q. q ≢ p) qs → map (difference (set u p (get_or v p 0)) v) qs ≡ map (difference u v) qs
+  same-differences : (qs : List ℕ) → AllByRecursion (λ q. q ≢ p) qs → map (difference (set u p (get_or v p 0)) v) qs ≡ map (difference u v) qs
   unfolding difference
   same-differences [] a = refl
   same-differences (q ∷ qs) a = ap₂ (λ x xs. bit_xor x (get_or v q 0) ∷ xs) (get_or-set_other u p q (get_or v p 0) 0 a.0) (same-differences qs a.1)
@@ -53,7 +53,7 @@ bytes-differences (p ∷ ps) u v hu hv = (xor_lt 8 (get_or u p 0) (get_or v p 0)
 
 -- ---- at most one
 
-patch-none : (b ps vs : List ℕ) → All (λ v. v ≡ 0) vs → patch b ps vs ≡ b
+patch-none : (b ps vs : List ℕ) → AllByRecursion (λ v. v ≡ 0) vs → patch b ps vs ≡ b
 unfolding patch
 patch-none b [] vs z = refl
 patch-none b (p ∷ ps) [] z = refl

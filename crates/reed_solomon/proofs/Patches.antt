@@ -1,7 +1,7 @@
 -- A word with values added at some of its places.
 use Rattle.std.proofs.Common.{◌≡◌, ℕ, zero, suc, ◌-◌, ◌*◌, ◌<◌, ◌≤◌, ◌≢◌, List, [], ◌∷◌, map, length, get_or, set, sym, refl, ap, ◌∙◌, subst, ap₂, le_of_suc-le-suc, not-suc-le-zero, mul_comm, arith, lit<, length-set, get_or-set_other}
 use lib.Bits.{bit_xor, xor_lt, xor_self, xor_zero_r, xor_assoc, xor_comm}
-use Rattle.std.specs.List.{AllByRecursion as All}
+use Rattle.std.specs.List.{AllByRecursion}
 use Rattle.std.proofs.ByRecursion.{All-set}
 use Rattle.galois.specs.Galois.{gmul, gpow, alpha}
 use Rattle.reed_solomon.specs.Steps.{vsum, patch}
@@ -23,7 +23,7 @@ weight-inj n p q h hp hq e =
     let s : n - 1 - q ≡ n - 1 - p = alpha-inj (n - 1 - q) (n - 1 - p) (omega arith) (omega arith) e in
     omega arith
 
-weights-apart : (n p : ℕ) (qs : List ℕ) → n ≤ 255 → p < n → Within n qs → All (λ q. q ≢ p) qs → All (λ x. x ≢ weight n p) (map (weight n) qs)
+weights-apart : (n p : ℕ) (qs : List ℕ) → n ≤ 255 → p < n → Within n qs → AllByRecursion (λ q. q ≢ p) qs → AllByRecursion (λ x. x ≢ weight n p) (map (weight n) qs)
 weights-apart n p [] h hp w d = tt
 weights-apart n p (q ∷ qs) h hp w d = (λ e. d.0 (weight-inj n p q h hp w.0 e), weights-apart n p qs h hp w.1 d.1)
 
@@ -72,7 +72,7 @@ length-patch b [] vs = refl
 length-patch b (p ∷ ps) [] = refl
 length-patch b (p ∷ ps) (v ∷ vs) = length-patch (set b p (bit_xor (get_or b p 0) v)) ps vs ∙ length-set b p (bit_xor (get_or b p 0) v)
 
-pub syn-patch : (e n : ℕ) (b ps vs : List ℕ) → length b ≡ n → All (λ p. p < n) ps → syndrome e (patch b ps vs) ≡ bit_xor (syndrome e b) (vsum e (map (λ p. alpha (n - 1 - p)) ps) vs)
+pub syn-patch : (e n : ℕ) (b ps vs : List ℕ) → length b ≡ n → AllByRecursion (λ p. p < n) ps → syndrome e (patch b ps vs) ≡ bit_xor (syndrome e b) (vsum e (map (λ p. alpha (n - 1 - p)) ps) vs)
 unfolding patch vsum
 syn-patch e n b [] vs l w = sym (xor_zero_r (syndrome e b))
 syn-patch e n b (p ∷ ps) [] l w = sym (xor_zero_r (syndrome e b))
@@ -85,7 +85,7 @@ syn-patch e n b (p ∷ ps) (v ∷ vs) l w =
     ∙ ap (λ z. bit_xor z m) (syn-set e b p (bit_xor (get_or b p 0) v) h ∙ ap₂ (λ y z. bit_xor (syndrome e b) (gmul y z)) same (ap (λ k. alpha (e * (k - 1 - p))) l ∙ sym (weight-pow n p e)))
     ∙ xor_assoc (syndrome e b) (gmul v (gpow (weight n p) e)) m
 
-patch-else : (b ps vs : List ℕ) (k : ℕ) → All (λ p. k ≢ p) ps → get_or (patch b ps vs) k 0 ≡ get_or b k 0
+patch-else : (b ps vs : List ℕ) (k : ℕ) → AllByRecursion (λ p. k ≢ p) ps → get_or (patch b ps vs) k 0 ≡ get_or b k 0
 unfolding patch
 patch-else b [] vs k a = refl
 patch-else b (p ∷ ps) [] k a = refl

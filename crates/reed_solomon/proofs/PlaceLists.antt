@@ -1,7 +1,7 @@
 -- Lists of places, by their indices.
 use Rattle.std.proofs.Common.{◌≡◌, ℕ, zero, suc, ◌<◌, ◌≤◌, false, T, ◌≢◌, List, [], ◌∷◌, length, get_or, Decides, sym, subst, arith}
 use native.Mathlib.Decide.{ℕ_discrete}
-use Rattle.std.specs.List.{AllByRecursion as All}
+use Rattle.std.specs.List.{AllByRecursion}
 use Rattle.std.proofs.ByRecursion.{All-get_or, All-from_get_or}
 use Rattle.reed_solomon.specs.Words.{Within, Distinct}
 
@@ -29,9 +29,9 @@ record But (n : ℕ) (ps : List ℕ) : Type 0 where
   within : Within n rest
   once : Distinct rest
   many : length ps ≤ suc (length rest)
-  apart : (x : ℕ) → All (λ q. q ≢ x) ps → All (λ q. q ≢ x) rest
+  apart : (x : ℕ) → AllByRecursion (λ q. q ≢ x) ps → AllByRecursion (λ q. q ≢ x) rest
 
-below-n : (n : ℕ) (ps : List ℕ) → Within (suc n) ps → All (λ q. q ≢ n) ps → Within n ps
+below-n : (n : ℕ) (ps : List ℕ) → Within (suc n) ps → AllByRecursion (λ q. q ≢ n) ps → Within n ps
 below-n n [] w d = tt
 below-n n (p ∷ ps) w d = (let h = w.0 in let g = d.0 in omega arith, below-n n ps w.1 d.1)
 
@@ -40,7 +40,7 @@ but n [] w d = record { rest = []; within = tt; once = tt; many = omega arith; a
 but n (p ∷ ps) w d = go (ℕ_discrete p n) (but n ps w.1 d.1)
   where
     go : Dec (p ≡ n) → But n ps → But n (p ∷ ps)
-    go (yes e) b = record { rest = ps; within = below-n n ps w.1 (subst (λ m. All (λ q. q ≢ m) ps) e d.0); once = d.1; many = omega arith; apart = λ x a. a.1 }
+    go (yes e) b = record { rest = ps; within = below-n n ps w.1 (subst (λ m. AllByRecursion (λ q. q ≢ m) ps) e d.0); once = d.1; many = omega arith; apart = λ x a. a.1 }
     go (no g) b =
         record {
           rest = p ∷ b.rest;

@@ -1,7 +1,7 @@
 -- Sums of v_i * x_i^e over weights x_i, for e = 0, 1, ..: with k different weights the first k sums can be any bytes, and fix the values v_i.
 use Rattle.std.proofs.Common.{◌≡◌, ℕ, zero, suc, ◌<◌, ◌≢◌, List, [], ◌∷◌, length, get_or, sym, refl, ap, ◌∙◌, subst, ap₂, arith, lit<}
 use lib.Bits.{bit_xor, xor_lt, xor_self, xor_zero_r}
-use Rattle.std.specs.List.{AllByRecursion as All}
+use Rattle.std.specs.List.{AllByRecursion}
 use Rattle.std.proofs.ByRecursion.{All-from_get_or}
 use Rattle.galois.specs.Galois.{gmul, gpow, ginv}
 use Rattle.reed_solomon.specs.Steps.{xsum, vsum}
@@ -69,8 +69,8 @@ bytes-scale x [] vs = tt
 bytes-scale x (y ∷ ys) [] = tt
 bytes-scale x (y ∷ ys) (v ∷ vs) = (gmul-lt v (bit_xor y x), bytes-scale x ys vs)
 
-cancelled : (x : ℕ) (ys vs : List ℕ) → x < 256 → Bytes ys → All (λ y. y ≢ x) ys → length vs ≡ length ys → Bytes vs
-    → All (λ v. v ≡ 0) (scale x ys vs) → All (λ v. v ≡ 0) vs
+cancelled : (x : ℕ) (ys vs : List ℕ) → x < 256 → Bytes ys → AllByRecursion (λ y. y ≢ x) ys → length vs ≡ length ys → Bytes vs
+    → AllByRecursion (λ v. v ≡ 0) (scale x ys vs) → AllByRecursion (λ v. v ≡ 0) vs
 unfolding scale
 cancelled x [] [] hx hy d l hv z = tt
 cancelled x [] (v ∷ vs) hx hy d l hv z = absurd (omega arith)
@@ -80,7 +80,7 @@ cancelled x (y ∷ ys) (v ∷ vs) hx hy d l hv z = (
   cancelled x ys vs hx hy.1 d.1 (omega arith) hv.1 z.1,
 )
 
-xsum-none : (vs : List ℕ) → All (λ v. v ≡ 0) vs → xsum vs ≡ 0
+xsum-none : (vs : List ℕ) → AllByRecursion (λ v. v ≡ 0) vs → xsum vs ≡ 0
 unfolding xsum
 xsum-none [] z = refl
 xsum-none (v ∷ vs) z = ap₂ bit_xor z.0 (xsum-none vs z.1)
@@ -89,7 +89,7 @@ first : (x v : ℕ) (ys vs : List ℕ) → length vs ≡ length ys → Bytes (v 
 unfolding vsum gpow
 first x v ys vs l h = ap₂ bit_xor (gmul-one-r v h.0) (vsum-zero ys vs l h.1)
 
-pub none : (xs vs : List ℕ) → Bytes xs → Distinct xs → length vs ≡ length xs → Bytes vs → ((e : ℕ) → e < length xs → vsum e xs vs ≡ 0) → All (λ v. v ≡ 0) vs
+pub none : (xs vs : List ℕ) → Bytes xs → Distinct xs → length vs ≡ length xs → Bytes vs → ((e : ℕ) → e < length xs → vsum e xs vs ≡ 0) → AllByRecursion (λ v. v ≡ 0) vs
 none [] [] hx d l hv z = tt
 none [] (v ∷ vs) hx d l hv z = absurd (omega arith)
 none (x ∷ ys) [] hx d l hv z = tt
@@ -97,7 +97,7 @@ none (x ∷ ys) (v ∷ vs) hx d l hv z =
     let m : length vs ≡ length ys = omega arith in
     let gone : (e : ℕ) → e < length ys → vsum e ys (scale x ys vs) ≡ 0 =
     λ e h. dropped x e v ys vs ∙ ap₂ bit_xor (z (suc e) (omega arith)) (ap (gmul x) (z e (omega arith)) ∙ gmul-zero-r x) in
-    let others : All (λ w. w ≡ 0) vs =
+    let others : AllByRecursion (λ w. w ≡ 0) vs =
     cancelled x ys vs hx.0 hx.1 d.0 m hv.1 (none ys (scale x ys vs) hx.1 d.1 (length-scale x ys vs m) (bytes-scale x ys vs) gone) in
     (sym (xor_zero_r v) ∙ ap (bit_xor v) (sym (xsum-none vs others)) ∙ sym (first x v ys vs m hv) ∙ z 0 (omega arith), others)
 
@@ -112,7 +112,7 @@ restored g y z p h k =
     ap (λ w. gmul w z) (gmul-assoc g (ginv y) y ∙ ap (gmul g) (gmul-comm (ginv y) y ∙ gmul-inv y p h))
     ∙ gmul-assoc g 1 z ∙ ap (gmul g) (gmul-comm 1 z ∙ gmul-one-r z k)
 
-vsum-back : (x e : ℕ) (ys g vs : List ℕ) → x < 256 → Bytes ys → All (λ y. y ≢ x) ys → length g ≡ length ys → length vs ≡ length ys → Quotients x ys g vs
+vsum-back : (x e : ℕ) (ys g vs : List ℕ) → x < 256 → Bytes ys → AllByRecursion (λ y. y ≢ x) ys → length g ≡ length ys → length vs ≡ length ys → Quotients x ys g vs
     → vsum e ys (scale x ys vs) ≡ vsum e ys g
 unfolding vsum scale
 vsum-back x e [] g vs hx hy d lg lv q = refl
@@ -124,7 +124,7 @@ vsum-back x e (y ∷ ys) (a ∷ g) (v ∷ vs) hx hy d lg lv q =
     ∙ restored a (bit_xor y x) (gpow y e) (xor-differ y x d.0) (xor_lt 8 y x hy.0 hx) (gpow-lt y e))
     (vsum-back x e ys g vs hx hy.1 d.1 (omega arith) (omega arith) (λ i h. q (suc i) (omega arith)))
 
-module _ (x : ℕ) (ys g vs : List ℕ) (t : ℕ → ℕ) (hx : x < 256) (hy : Bytes ys) (d : All (λ y. y ≢ x) ys) (lg : length g ≡ length ys) (lv : length vs ≡ length ys)
+module _ (x : ℕ) (ys g vs : List ℕ) (t : ℕ → ℕ) (hx : x < 256) (hy : Bytes ys) (d : AllByRecursion (λ y. y ≢ x) ys) (lg : length g ≡ length ys) (lv : length vs ≡ length ys)
     (q : Quotients x ys g vs) (sums : (e : ℕ) → e < length ys → vsum e ys g ≡ bit_xor (t (suc e)) (gmul x (t e))) (ht : t 0 < 256) where
   small : Bytes vs
   small = All-from_get_or (λ v. v < 256) vs 0 (λ i h. subst (λ z. z < 256) (sym (q i h)) (gmul-lt (get_or g i 0) (ginv (bit_xor (get_or ys i 0) x))))

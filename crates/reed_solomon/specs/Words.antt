@@ -1,6 +1,6 @@
 -- Words of a Reed-Solomon code, and the filling of their lost bytes.
 use Rattle.std.specs.Prelude.{◌≡◌, ℕ, zero, suc, ◌-◌, ◌*◌, ◌<◌, ◌≤◌, ◌≢◌, ◌⊎◌, List, [], ◌∷◌, length, Ok, Err, Result, bit_xor, slice_index}
-use Rattle.std.specs.List.{AllByRecursion as All}
+use Rattle.std.specs.List.{AllByRecursion}
 use Rattle.reed_solomon.specs.declared.fault.FillFault.{FillFault}
 use Rattle.reed_solomon.specs.declared.fault.FillFault.TheVariants.{WordLength, NotAPlace, PlaceTwice, TooManyLost, NoFilling}
 use Rattle.galois.specs.Galois.{gmul, alpha}
@@ -15,16 +15,16 @@ abbrev pub Checks : ℕ → List ℕ → Type 0
 Checks r b = (e : ℕ) → e < r → syndrome e b ≡ 0
 
 abbrev pub Bytes : List ℕ → Type 0
-Bytes b = All (λ x. x < 256) b
+Bytes b = AllByRecursion (λ x. x < 256) b
 
 -- each of these is a place of a word of n bytes
 abbrev pub Within : ℕ → List ℕ → Type 0
-Within n ps = All (λ p. p < n) ps
+Within n ps = AllByRecursion (λ p. p < n) ps
 
 -- each of these is named once
 abbrev pub Distinct : List ℕ → Type 0
 Distinct [] = Unit {0}
-Distinct (p ∷ ps) = All (λ q. q ≢ p) ps × Distinct ps
+Distinct (p ∷ ps) = AllByRecursion (λ q. q ≢ p) ps × Distinct ps
 
 -- places of a word of n bytes, each named once
 pub record Places (n : ℕ) (ps : List ℕ) : Type 0 where
@@ -34,7 +34,7 @@ pub record Places (n : ℕ) (ps : List ℕ) : Type 0 where
 -- u and v are as long, and differ at most at the places ps
 pub record Off (ps u v : List ℕ) : Type 0 where
   pub size : length u ≡ length v
-  pub same : (k : ℕ) → k < length u → All (λ p. k ≢ p) ps → slice_index u k ≡ slice_index v k
+  pub same : (k : ℕ) → k < length u → AllByRecursion (λ p. k ≢ p) ps → slice_index u k ≡ slice_index v k
 
 -- u is b with other bytes at the places ps at most, and checks to r
 pub record Filled (r : ℕ) (ps b u : List ℕ) : Type 0 where

@@ -1,6 +1,6 @@
 -- The groups of a recording that was closed stand at their places, and are read.
 use Rattle.std.proofs.Common.{◌≡◌, ℕ, suc, ◌<◌, ◌≤◌, cond, eqb, ◌⊎◌, List, [], ◌∷◌, ◌++◌, map, length, get_or, Ok, sym, refl, ap, ◌∙◌, subst, inl, inr, arith}
-use Rattle.std.specs.List.{AllByRecursion as All}
+use Rattle.std.specs.List.{AllByRecursion}
 use Rattle.std.proofs.ByRecursion.{All-get_or}
 use Rattle.std.proofs.lemmas.List.{length-map, get_or-map, get_or_append_left, get_or_push}
 use Rattle.std.proofs.lemmas.Bool.{cond-true, cond-false, eq-eqb, ne_eqb, cases_lt}
@@ -23,12 +23,12 @@ unfolding read_group
 final-byte g h = ap (λ (z : Group). z.final) (reread g h).1
 
 -- what holds of the bytes of every whole group
-of-groups : (P : Group → List ℕ → Type 0) → ((g : Group) → Whole g → P g (group_of g)) → (gs : List Group) (d : Group) → All Whole gs
+of-groups : (P : Group → List ℕ → Type 0) → ((g : Group) → Whole g → P g (group_of g)) → (gs : List Group) (d : Group) → AllByRecursion Whole gs
     → (k : ℕ) → k < length gs → P (get_or gs k d) (get_or (map group_of gs) k [])
 of-groups P f gs d w k h = subst (P (get_or gs k d)) (sym (get_or-map group_of gs k d [] h)) (f (get_or gs k d) (All-get_or Whole gs k d h w))
 
 -- only the last group is final
-final-is : (gs : List Group) (g d : Group) (n k : ℕ) → All (λ (g : Group). g.final ≡ 0) gs → g.final ≡ 1 → n ≡ suc (length gs) → k < n
+final-is : (gs : List Group) (g d : Group) (n k : ℕ) → AllByRecursion (λ (g : Group). g.final ≡ 0) gs → g.final ≡ 1 → n ≡ suc (length gs) → k < n
     → (get_or (gs ++ (g ∷ [])) k d).final ≡ cond (eqb (suc k) n) 1 0
 final-is gs g d n k on e m h = go (cases_lt k (length gs))
   where
@@ -47,7 +47,7 @@ standing c x before ts n l r =
     let i = run-keeping c x before r.run in
     let b : s.limit ≤ 65535 = omega (arith, i.stays.limit) in
     let q = kept-closes t i.kept b in
-    let w : All Whole (closed s) = closed-whole t i.kept b in
+    let w : AllByRecursion Whole (closed s) = closed-whole t i.kept b in
     let m : n ≡ suc (length s.done) = r.number ∙ length-snoc s.done (stored 1 s) in
     let p : Placed c x (groups_of s) before (on_tape c x (stored 1 s) r.tape) =
     placed-group c x before s.done (stored 1 s) r.tape refl (omega (arith, i.stays.within, i.stays.limit, i.stays.placed.same)) i.stays.placed in

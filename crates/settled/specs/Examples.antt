@@ -1,7 +1,7 @@
 -- The settled examples: what the definitions give, beside the numbers that it has to be.
 use Rattle.std.specs.Prelude.{◌≡◌, ℕ, ◌+◌, ◌*◌, List, [], ◌∷◌, ◌++◌, map, length, replicate}
 use mathlib.Core.List.{flat_map}
-use Rattle.std.specs.List.{AllByRecursion as All}
+use Rattle.std.specs.List.{AllByRecursion}
 use Rattle.galois.specs.Galois.{alpha}
 use Rattle.layout.specs.Randomizer.{randomized}
 use Rattle.layout.specs.Placing.{Place, place_d}
@@ -87,4 +87,4 @@ examples r =
 
 -- whatever the bytes of the records
 abbrev pub Settled : Type 0
-Settled = (r : ℕ → List ℕ) → ((n : ℕ) → length (r n) ≡ n) → All (λ e. e.0 ≡ e.1) (examples r)
+Settled = (r : ℕ → List ℕ) → ((n : ℕ) → length (r n) ≡ n) → AllByRecursion (λ e. e.0 ≡ e.1) (examples r)

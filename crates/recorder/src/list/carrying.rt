@@ -2,7 +2,7 @@ ghost use Rattle.std.specs.Prelude.{◌≡◌, length};
 ghost use Rattle.layout.specs.Line.{code_of};
 ghost use Rattle.calls.specs.Laying.{desk};
 ghost use Rattle.calls.specs.Lists.{answer_to, done_to, answers_to, done_all};
-ghost use Rattle.std.specs.List.{AllByRecursion as All};
+ghost use Rattle.std.specs.List.{AllByRecursion};
 ghost use Rattle.index.specs.Bytes.{Small};
 ghost use Rattle.laying.specs.Calls.{Sends};
 ghost use Rattle.recorder.specs.Views.{held_in};
@@ -65,7 +65,7 @@ impl<'a> OpenRecording<'a> {
         ensures bench { bench.new ≡ spent_all (code_of (C.LineCode.encode code.now) (C.LineCode.decode code.now)) (record { track = length buffer.old; bench = length bench.old }) (calls_of list.old) (desk (held_in self.old) (T.Playable.tracks tape.old)) bench.old }
         ensures buffer { buffer.new ≡ spent_all (code_of (C.LineCode.encode code.now) (C.LineCode.decode code.now)) (record { track = length buffer.old; bench = length bench.old }) (calls_of list.old) (desk (held_in self.old) (T.Playable.tracks tape.old)) buffer.old }
         ensures same { self.new.group.ghost_name ≡ self.old.group.ghost_name }
-        ensures sends { All Sends (calls_of list.old) }
+        ensures sends { AllByRecursion Sends (calls_of list.old) }
     {
         for i in 0..list.len() {
             let call = list[i].call;

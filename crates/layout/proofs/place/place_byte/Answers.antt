@@ -16,7 +16,7 @@ returns c =
     record {
       placed =
           ap₂ (λ s n. Some (s, i % 52 + 75 * (i % 2) + i / 832, 2 * (n + i / 52) - i / 52 % 2 - 32 * (i / 832)))
-          (c.sign-of.ensures ∙ ap (λ a. sign_of ((a + i) % 2)) c.number-2.ensures.is) c.number.ensures.is
+          (c.sign_of.ensures ∙ ap (λ a. sign_of ((a + i) % 2)) c.number-2.ensures.is) c.number.ensures.is
           ∙ sym (cond-true (ltb i 1456) (Some (sign_of (sign i (channel_number c.args.channel)), block i, serial i (half_number c.args.half))) None (lt-ltb i 1456 c.if-word-ge1456.false));
       fits = places-fit;
       bijection = bijection;

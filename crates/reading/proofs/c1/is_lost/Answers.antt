@@ -7,4 +7,4 @@ use Rattle.reading.proofs.c1.is_lost.Goals as goal
 pub returns : goal.returns
 returns c =
     ap₂ (λ a b. a || not b) (sym c.if-marked.false)
-    (checks-is 4 (interleaved c.args.array.now (64 * (c.args.k / 2) + c.args.k % 2) 2 32) c.checks-interleaved.result c.checks-interleaved.ensures)
+    (checks-is 4 (interleaved c.args.array.now (64 * (c.args.k / 2) + c.args.k % 2) 2 32) c.checks_interleaved.result c.checks_interleaved.ensures)

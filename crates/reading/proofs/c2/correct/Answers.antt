@@ -17,10 +17,10 @@ loop-n-init c = (λ x l. l, c.words.invariant.1)
 pub loop-n-preserved : goal.loop-n-preserved
 loop-n-preserved c = (
   λ x l.
-      let read : cause_number c.fill-word-cause.result ≡ 0 = read_number c.fill-word-cause.result c.if-is-loss.ensures in
+      let read : cause_number c.fill_word-cause.result ≡ 0 = read_number c.fill_word-cause.result c.if-is_loss.ensures in
       left_step (erased_in c.args.lost.now) x c.loop-n.array c.words.m c.loop-n.n c.words-test.true (subst (λ z. c.loop-n.n < z) c.width-n-end.ensures.is c.loop-n-test.true)
-      (c.loop-n.invariant.0 x l) c.fill-word-cause.new.array (cause_number c.fill-word-cause.result) read c.fill-word-cause.ensures.cause
-      (c.fill-word-cause.ensures.here read),
+      (c.loop-n.invariant.0 x l) c.fill_word-cause.new.array (cause_number c.fill_word-cause.result) read c.fill_word-cause.ensures.cause
+      (c.fill_word-cause.ensures.here read),
   c.loop-n.invariant.1,
 )
 
@@ -37,9 +37,9 @@ returns-after-words c =
     subst (λ (r : LossRow). Found (erased_in c.args.lost.now) (array_in c.args.array.now) c.words.array (cause_number r.cause, r.m, r.n)) (sym c.words.invariant.1)
     (left_end (erased_in c.args.lost.now) (array_in c.args.array.now) c.words.array c.words.m (omega (arith, c.words.auto.m-end, c.words-test.false)) c.words.invariant.0)
 
-pub returns-then-is-loss : goal.returns-then-is-loss
-returns-then-is-loss c =
+pub returns-then-is_loss : goal.returns-then-is_loss
+returns-then-is_loss c =
     let x : Array = array_in c.args.array.now in
     left-fail (erased_in c.args.lost.now) x c.loop-n.array c.words.m c.loop-n.n c.words-test.true (subst (λ z. c.loop-n.n < z) c.width-n-end.ensures.is c.loop-n-test.true)
-    (c.loop-n.invariant.0 x (left_in (erased_in c.args.lost.now) x c.words.array c.words.m c.words-test.true c.words.invariant.0)) c.fill-word-cause.new.array c.args.lost.now
-    (cause_number c.fill-word-cause.result) c.fill-word-cause.ensures.cause (loss-number c.fill-word-cause.result c.if-is-loss.ensures)
+    (c.loop-n.invariant.0 x (left_in (erased_in c.args.lost.now) x c.words.array c.words.m c.words-test.true c.words.invariant.0)) c.fill_word-cause.new.array c.args.lost.now
+    (cause_number c.fill_word-cause.result) c.fill_word-cause.ensures.cause (loss-number c.fill_word-cause.result c.if-is_loss.ensures)

@@ -11,5 +11,5 @@ loop-j-init c = (omega arith, omega arith, drop_all 32 c.args.out.now (omega ari
 
 pub loop-j-preserved : goal.loop-j-preserved
 loop-j-preserved c =
-    which-more (λ j. erased_in c.args.lost.now (c.args.m + 4 * j) c.args.n) 32 c.loop-j.j c.loop-j.k c.put-before-k.result c.loop-j.out c.put-before-k.new.out
-    c.loop-j-test.true c.loop-j.invariant.0 c.loop-j.invariant.1 c.loop-j.invariant.2 c.put-before-k.ensures.start c.put-before-k.ensures.listed
+    which-more (λ j. erased_in c.args.lost.now (c.args.m + 4 * j) c.args.n) 32 c.loop-j.j c.loop-j.k c.put_before-k.result c.loop-j.out c.put_before-k.new.out
+    c.loop-j-test.true c.loop-j.invariant.0 c.loop-j.invariant.1 c.loop-j.invariant.2 c.put_before-k.ensures.start c.put_before-k.ensures.listed

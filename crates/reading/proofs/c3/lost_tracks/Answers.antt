@@ -11,7 +11,7 @@ loop-t-init c = (omega arith, omega arith, drop_all 46 c.args.out.now (omega ari
 
 pub loop-t-preserved : goal.loop-t-preserved
 loop-t-preserved c =
-    which-more (gone_in c.args.sheet.now.rows) 46 c.loop-t.t c.loop-t.k c.put-before-k.result c.loop-t.out c.put-before-k.new.out
+    which-more (gone_in c.args.sheet.now.rows) 46 c.loop-t.t c.loop-t.k c.put_before-k.result c.loop-t.out c.put_before-k.new.out
     c.loop-t-test.true c.loop-t.invariant.0 c.loop-t.invariant.1 c.loop-t.invariant.2
-    (c.put-before-k.ensures.start ∙ ap (λ b. cond b (c.loop-t.k - 1) c.loop-t.k) c.is-lost.ensures)
-    (c.put-before-k.ensures.listed ∙ ap (λ b. cond b (c.loop-t.t ∷ drop c.loop-t.k c.loop-t.out) (drop c.loop-t.k c.loop-t.out)) c.is-lost.ensures)
+    (c.put_before-k.ensures.start ∙ ap (λ b. cond b (c.loop-t.k - 1) c.loop-t.k) c.is_lost.ensures)
+    (c.put_before-k.ensures.listed ∙ ap (λ b. cond b (c.loop-t.t ∷ drop c.loop-t.k c.loop-t.out) (drop c.loop-t.k c.loop-t.out)) c.is_lost.ensures)

@@ -12,8 +12,8 @@ use Rattle.reading.proofs.group.judge_group.Goals as goal
 rest : (xs : List ℕ) (k : ℕ) (f : List ℕ) → length xs ≡ 46 → drop k xs ≡ f → take (46 - k) (drop k xs) ≡ f
 rest xs k f e h = subst (λ n. take (n - k) (drop k xs) ≡ drop k xs) e (take_rest xs k) ∙ h
 
-pub overflow-cast-result : goal.overflow-cast-result
-overflow-cast-result c = let l : c.in-Some.t < 46 = third-below c.args.sheet.now.rows c.in-Some.t c.in-Some.ensures in search rules
+pub overflow_cast-result : goal.overflow_cast-result
+overflow_cast-result c = let l : c.in-Some.t < 46 = third-below c.args.sheet.now.rows c.in-Some.t c.in-Some.ensures in search rules
 
 pub returns-in-Some : goal.returns-in-Some
 returns-in-Some c =
@@ -23,38 +23,38 @@ returns-in-Some c =
       bytes = sym (ap (λ z. group_after z c.args.group.now) f);
     }
 
-pub fill-words-requires : goal.fill-words-requires
-fill-words-requires c =
-    let l = rest c.lost-tracks-k.new.out c.lost-tracks-k.result (which (gone_in c.args.sheet.now.rows) 46) c.lost-tracks-k.auto.out c.lost-tracks-k.ensures.listed in
+pub fill_words-requires : goal.fill_words-requires
+fill_words-requires c =
+    let l = rest c.lost_tracks-k.new.out c.lost_tracks-k.result (which (gone_in c.args.sheet.now.rows) 46) c.lost_tracks-k.auto.out c.lost_tracks-k.ensures.listed in
     record {
       size = c.requires.rows;
-      places = which-places (gone_in c.args.sheet.now.rows) 46 (take (46 - c.lost-tracks-k.result) (drop c.lost-tracks-k.result c.lost-tracks-k.new.out)) l;
-      few = subst (λ z. length z ≤ 2) (sym l) (few-lost c.args.sheet.now.rows c.in-default.ensures);
+      places = which-places (gone_in c.args.sheet.now.rows) 46 (take (46 - c.lost_tracks-k.result) (drop c.lost_tracks-k.result c.lost_tracks-k.new.out)) l;
+      few = subst (λ z. length z ≤ 2) (sym l) (few-lost c.args.sheet.now.rows c.in_default.ensures);
     }
 
-pub overflow-cast-result-in-Some-fill-words : goal.overflow-cast-result-in-Some-fill-words
-overflow-cast-result-in-Some-fill-words c =
-    let l : c.in-Some-fill-words.p < 4096 =
-    place-below (take (46 - c.lost-tracks-k.result) (drop c.lost-tracks-k.result c.lost-tracks-k.new.out)) c.args.rows.now c.fill-words.new.rows c.in-Some-fill-words.p c.in-Some-fill-words.ensures in
+pub overflow_cast-result-in-Some-fill_words : goal.overflow_cast-result-in-Some-fill_words
+overflow_cast-result-in-Some-fill_words c =
+    let l : c.in-Some-fill_words.p < 4096 =
+    place-below (take (46 - c.lost_tracks-k.result) (drop c.lost_tracks-k.result c.lost_tracks-k.new.out)) c.args.rows.now c.fill_words.new.rows c.in-Some-fill_words.p c.in-Some-fill_words.ensures in
     search rules
 
-pub returns-in-Some-fill-words : goal.returns-in-Some-fill-words
-returns-in-Some-fill-words c =
+pub returns-in-Some-fill_words : goal.returns-in-Some-fill_words
+returns-in-Some-fill_words c =
     let f =
     found-bad c.args.settings.tap c.args.settings.start c.args.sheet.now.rows c.args.rows.now
-    (take (46 - c.lost-tracks-k.result) (drop c.lost-tracks-k.result c.lost-tracks-k.new.out)) c.fill-words.new.rows c.in-default.ensures
-    (rest c.lost-tracks-k.new.out c.lost-tracks-k.result (which (gone_in c.args.sheet.now.rows) 46) c.lost-tracks-k.auto.out c.lost-tracks-k.ensures.listed)
-    c.in-Some-fill-words.p c.in-Some-fill-words.ensures in
+    (take (46 - c.lost_tracks-k.result) (drop c.lost_tracks-k.result c.lost_tracks-k.new.out)) c.fill_words.new.rows c.in_default.ensures
+    (rest c.lost_tracks-k.new.out c.lost_tracks-k.result (which (gone_in c.args.sheet.now.rows) 46) c.lost_tracks-k.auto.out c.lost_tracks-k.ensures.listed)
+    c.in-Some-fill_words.p c.in-Some-fill_words.ensures in
     record { answer = sym (ap (answer_of c.args.sheet.now.rows) f); bytes = sym (ap (λ z. group_after z c.args.group.now) f) }
 
 pub returns : goal.returns
 returns c =
     let f =
     found-whole c.args.settings.tap c.args.settings.start c.args.sheet.now.rows c.args.rows.now
-    (take (46 - c.lost-tracks-k.result) (drop c.lost-tracks-k.result c.lost-tracks-k.new.out)) c.fill-words.new.rows c.in-default.ensures
-    (rest c.lost-tracks-k.new.out c.lost-tracks-k.result (which (gone_in c.args.sheet.now.rows) 46) c.lost-tracks-k.auto.out c.lost-tracks-k.ensures.listed)
-    c.in-default-fill-words.ensures in
+    (take (46 - c.lost_tracks-k.result) (drop c.lost_tracks-k.result c.lost_tracks-k.new.out)) c.fill_words.new.rows c.in_default.ensures
+    (rest c.lost_tracks-k.new.out c.lost_tracks-k.result (which (gone_in c.args.sheet.now.rows) 46) c.lost_tracks-k.auto.out c.lost_tracks-k.ensures.listed)
+    c.in_default-fill_words.ensures in
     record {
       answer = sym (ap (answer_of c.args.sheet.now.rows) f);
-      bytes = c.take-group.ensures ∙ sym (ap (λ z. group_after z c.args.group.now) f);
+      bytes = c.take_group.ensures ∙ sym (ap (λ z. group_after z c.args.group.now) f);
     }

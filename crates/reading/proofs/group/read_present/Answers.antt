@@ -6,26 +6,26 @@ use Rattle.reading.specs.Groups.{outcomes, answer_of, group_after}
 use Rattle.reading.proofs.WholeGroup.{found-is, sheet-is, zero-front}
 use Rattle.reading.proofs.group.read_present.Goals as goal
 
-pub read-tracks-requires : goal.read-tracks-requires
-read-tracks-requires g c =
+pub read_tracks-requires : goal.read_tracks-requires
+read_tracks-requires g c =
     let e : c.fill.new.self ≡ replicate (length c.args.bench.now) 0 = search rules in
     record {
       group = c.requires.present;
       tape = c.requires.tape;
       buffer = c.requires.buffer;
-      array = omega (arith, c.split-at-mut-rows.ensures.back_len, c.fill.ensures.len, c.requires.bench);
-      rows = c.split-at-mut-rows.ensures.front-len;
-      zero = zero-front c.split-at-mut-rows.result.0.now c.split-at-mut-rows.result.1.now (length c.args.bench.now) (sym e ∙ c.split-at-mut-rows.ensures.value);
+      array = omega (arith, c.split_at_mut-rows.ensures.back_len, c.fill.ensures.len, c.requires.bench);
+      rows = c.split_at_mut-rows.ensures.front_len;
+      zero = zero-front c.split_at_mut-rows.result.0.now c.split_at_mut-rows.result.1.now (length c.args.bench.now) (sym e ∙ c.split_at_mut-rows.ensures.value);
     }
 
 pub returns : goal.returns
 unfolding group_read
 returns g c =
     let o : ℕ → Outcome = outcomes (code_of (g.C.LineCode.encode c.args.code.now) (g.C.LineCode.decode c.args.code.now)) c.args.number (g.T.Playable.tracks c.args.tape.now) in
-    let f = found-is c.args.settings.tap c.args.settings.start o c.read-tracks.new.sheet.rows c.read-tracks.new.rows c.read-tracks.ensures in
-    let s = sheet-is o c.read-tracks.new.sheet.rows c.read-tracks.new.rows c.read-tracks.ensures in
+    let f = found-is c.args.settings.tap c.args.settings.start o c.read_tracks.new.sheet.rows c.read_tracks.new.rows c.read_tracks.ensures in
+    let s = sheet-is o c.read_tracks.new.sheet.rows c.read_tracks.new.rows c.read_tracks.ensures in
     record {
-      answer = c.judge-group.ensures.answer ∙ ap₂ answer_of s f;
-      bytes = c.judge-group.ensures.bytes ∙ ap (λ z. group_after z c.args.group.now) f;
+      answer = c.judge_group.ensures.answer ∙ ap₂ answer_of s f;
+      bytes = c.judge_group.ensures.bytes ∙ ap (λ z. group_after z c.args.group.now) f;
       findings = s;
     }

@@ -17,14 +17,14 @@ loop-d-preserved c =
     let start : ℕ = c.args.settings.start in
     let d : ℕ = c.loop-d.d in
     let more : 8 * d + 8 ≡ 8 * (d + 1) = omega arith in (
-      c.next-byte-mask.ensures.below,
-      c.next-byte-mask.ensures.next ∙ ap (steps tap 8) c.loop-d.invariant.1 ∙ steps-add tap 8 (8 * d) start ∙ ap (λ n. steps tap n start) more,
+      c.next_byte-mask.ensures.below,
+      c.next_byte-mask.ensures.next ∙ ap (steps tap 8) c.loop-d.invariant.1 ∙ steps-add tap 8 (8 * d) start ∙ ap (λ n. steps tap n start) more,
       λ f e h l.
           elim (cases_eq e d) [
-            | inl q ↦ ap (λ z. get_or c.put-bytes.new.group (5756 * f + z) 0) q ∙ c.put-bytes.ensures.here f h
-                ∙ ap (bit_xor (get_or c.args.rows.now (place_in f d) 0)) (c.next-byte-mask.ensures.byte ∙ ap (output tap 8) c.loop-d.invariant.1)
+            | inl q ↦ ap (λ z. get_or c.put_bytes.new.group (5756 * f + z) 0) q ∙ c.put_bytes.ensures.here f h
+                ∙ ap (bit_xor (get_or c.args.rows.now (place_in f d) 0)) (c.next_byte-mask.ensures.byte ∙ ap (output tap 8) c.loop-d.invariant.1)
                 ∙ ap (λ z. bit_xor (get_or c.args.rows.now (place_in f z) 0) (output tap 8 (steps tap (8 * z) start))) (sym q)
-            | inr q ↦ c.put-bytes.ensures.others f e (omega arith) q ∙ c.loop-d.invariant.2 f e h (omega (arith, q))
+            | inr q ↦ c.put_bytes.ensures.others f e (omega arith) q ∙ c.loop-d.invariant.2 f e h (omega (arith, q))
           ],
     )
 

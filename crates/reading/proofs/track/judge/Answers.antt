@@ -7,8 +7,8 @@ use Rattle.reading.proofs.Marks.{taken_none}
 use Rattle.reading.proofs.WholeTrack.{track-lost, track-unheaded, track-read}
 use Rattle.reading.proofs.track.judge.Goals as goal
 
-pub take-bytes-requires : goal.take-bytes-requires
-take-bytes-requires g c = record {
+pub take_bytes-requires : goal.take_bytes-requires
+take_bytes-requires g c = record {
   track = c.requires.track;
   words = c.requires.words;
   array = c.requires.array;
@@ -17,20 +17,20 @@ take-bytes-requires g c = record {
       (λ k h. get_or-replicate 128 k false false h);
 }
 
-pub returns-then-is-loss : goal.returns-then-is-loss
-returns-then-is-loss g c =
+pub returns-then-is_loss : goal.returns-then-is_loss
+returns-then-is_loss g c =
     track-lost (code_of (g.C.LineCode.encode c.args.code.now) (g.C.LineCode.decode c.args.code.now)) (address c.args.group c.args.t) (at c.args.words.now)
-    c.take-bytes.new.array c.correct-found.new.array c.take-bytes.new.lost c.mark-unchecked.new.lost c.correct-found.result c.take-bytes.ensures c.mark-unchecked.ensures
-    c.correct-found.ensures c.if-is-loss.ensures
+    c.take_bytes.new.array c.correct-found.new.array c.take_bytes.new.lost c.mark_unchecked.new.lost c.correct-found.result c.take_bytes.ensures c.mark_unchecked.ensures
+    c.correct-found.ensures c.if-is_loss.ensures
 
-pub returns-then-not-is-headed : goal.returns-then-not-is-headed
-returns-then-not-is-headed g c =
+pub returns-then-not-is_headed : goal.returns-then-not-is_headed
+returns-then-not-is_headed g c =
     track-unheaded (code_of (g.C.LineCode.encode c.args.code.now) (g.C.LineCode.decode c.args.code.now)) (address c.args.group c.args.t) (at c.args.words.now)
-    c.take-bytes.new.array c.correct-found.new.array c.take-bytes.new.lost c.mark-unchecked.new.lost c.correct-found.result c.take-bytes.ensures c.mark-unchecked.ensures
-    c.correct-found.ensures c.if-is-loss.ensures c.if-not-is-headed.ensures
+    c.take_bytes.new.array c.correct-found.new.array c.take_bytes.new.lost c.mark_unchecked.new.lost c.correct-found.result c.take_bytes.ensures c.mark_unchecked.ensures
+    c.correct-found.ensures c.if-is_loss.ensures c.if-not-is_headed.ensures
 
 pub returns : goal.returns
 returns g c =
     track-read (code_of (g.C.LineCode.encode c.args.code.now) (g.C.LineCode.decode c.args.code.now)) (address c.args.group c.args.t) (at c.args.words.now)
-    c.take-bytes.new.array c.correct-found.new.array c.take-bytes.new.lost c.mark-unchecked.new.lost c.correct-found.result c.take-bytes.ensures c.mark-unchecked.ensures
-    c.correct-found.ensures c.if-is-loss.ensures c.if-not-is-headed.ensures
+    c.take_bytes.new.array c.correct-found.new.array c.take_bytes.new.lost c.mark_unchecked.new.lost c.correct-found.result c.take_bytes.ensures c.mark_unchecked.ensures
+    c.correct-found.ensures c.if-is_loss.ensures c.if-not-is_headed.ensures

@@ -9,7 +9,7 @@ use Rattle.reading.proofs.track.take_row.Goals as goal
 pub loop-q-preserved : goal.loop-q-preserved
 loop-q-preserved c =
     fill_step (λ k. array_in c.args.array.now (block_at k) (serial_at k)) c.loop-q.out c.loop-q.q 0
-    (array_in c.args.array.now c.block-at.result c.serial-at.result) (omega arith) (ap₂ (array_in c.args.array.now) c.block-at.ensures.is c.serial-at.ensures.is)
+    (array_in c.args.array.now c.block_at.result c.serial_at.result) (omega arith) (ap₂ (array_in c.args.array.now) c.block_at.ensures.is c.serial_at.ensures.is)
     c.loop-q.invariant
 
 pub returns : goal.returns

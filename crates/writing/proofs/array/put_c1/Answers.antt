@@ -5,16 +5,23 @@ use Rattle.writing.specs.Arrays.{c1_filled}
 use Rattle.writing.proofs.Passes.{c1-split, c1-places, one_more}
 use Rattle.writing.proofs.array.put_c1.Goals as goal
 
-pub fill-interleaved-requires : goal.fill-interleaved-requires
+pub fill_interleaved-requires : goal.fill_interleaved-requires
 unfolding c1_checks which
-fill-interleaved-requires c = (λ j h. omega (arith, c.loop-w.invariant.0), lit< tt, lit< tt, c1-places, lit≤ tt)
+fill_interleaved-requires c =
+    record {
+      reaches = λ j h. omega (arith, c.loop-w.invariant.0);
+      stride_nonzero = lit< tt;
+      n_bound = lit< tt;
+      places = c1-places;
+      lost_len_bound = lit≤ tt;
+    }
 
 pub loop-w-preserved : goal.loop-w-preserved
 unfolding c1_filled c1_checks which
 loop-w-preserved c =
     let b : (i : ℕ) → get_or c.loop-w.array i 0 < 256 = λ i. search rules in (
-      c.fill-interleaved.auto.memory ∙ c.loop-w.invariant.0,
+      c.fill_interleaved.auto.memory ∙ c.loop-w.invariant.0,
       one_more 4 (31 ∷ 30 ∷ 29 ∷ 28 ∷ []) 4096 128 2 32 (λ p. 2 * (p / 64) + p % 2) (λ p. p % 64 / 2) (λ p. 64 * (p / 64) + p % 2) (λ w. 64 * (w / 2) + w % 2) c1-split (lit≤ tt) c1-places refl
-          c.args.array.now c.loop-w.array c.fill-interleaved.new.memory c.loop-w.w c.loop-w-test.true (λ j h. omega arith) b c.loop-w.invariant.1
-          c.fill-interleaved.result c.fill-interleaved.ensures,
+          c.args.array.now c.loop-w.array c.fill_interleaved.new.memory c.loop-w.w c.loop-w-test.true (λ j h. omega arith) b c.loop-w.invariant.1
+          c.fill_interleaved.result c.fill_interleaved.ensures,
     )

@@ -5,16 +5,23 @@ use Rattle.writing.specs.Arrays.{c2_filled}
 use Rattle.writing.proofs.Passes.{c2-split, c2-places, one_more}
 use Rattle.writing.proofs.array.put_c2.Goals as goal
 
-pub fill-interleaved-requires : goal.fill-interleaved-requires
+pub fill_interleaved-requires : goal.fill_interleaved-requires
 unfolding c2_checks which
-fill-interleaved-requires c = (λ j h. omega (arith, c.loop-c.invariant.0), lit< tt, lit< tt, c2-places, lit≤ tt)
+fill_interleaved-requires c =
+    record {
+      reaches = λ j h. omega (arith, c.loop-c.invariant.0);
+      stride_nonzero = lit< tt;
+      n_bound = lit< tt;
+      places = c2-places;
+      lost_len_bound = lit≤ tt;
+    }
 
 pub loop-c-preserved : goal.loop-c-preserved
 unfolding c2_filled c2_checks which
 loop-c-preserved c =
     let b : (i : ℕ) → get_or c.loop-c.array i 0 < 256 = λ i. search rules in (
-      c.fill-interleaved.auto.memory ∙ c.loop-c.invariant.0,
+      c.fill_interleaved.auto.memory ∙ c.loop-c.invariant.0,
       one_more 6 (18 ∷ 17 ∷ 16 ∷ 15 ∷ 14 ∷ 13 ∷ []) 4096 128 128 32 (λ p. p % 128) (λ p. p / 128) (λ p. p % 128) (λ w. w) c2-split (lit≤ tt) c2-places refl
-          c.args.array.now c.loop-c.array c.fill-interleaved.new.memory c.loop-c.c c.loop-c-test.true (λ j h. omega arith) b c.loop-c.invariant.1
-          c.fill-interleaved.result c.fill-interleaved.ensures,
+          c.args.array.now c.loop-c.array c.fill_interleaved.new.memory c.loop-c.c c.loop-c-test.true (λ j h. omega arith) b c.loop-c.invariant.1
+          c.fill_interleaved.result c.fill_interleaved.ensures,
     )

@@ -5,10 +5,10 @@ use Rattle.writing.proofs.group.store_group.Goals as goal
 pub returns : goal.returns
 returns g c =
     record {
-      kept = c.store-rows.ensures.kept;
+      kept = c.store_rows.ensures.kept;
       tape =
-          group-made c.args.settings.tap c.args.settings.start c.args.group.now c.make-rows.new.bench c.split-at-mut-rows.result.0.now
-          c.split-at-mut-rows.result.1.now c.split-at-mut-rows.ensures.value c.split-at-mut-rows.ensures.front-len c.make-rows.ensures
+          group-made c.args.settings.tap c.args.settings.start c.args.group.now c.make_rows.new.bench c.split_at_mut-rows.result.0.now
+          c.split_at_mut-rows.result.1.now c.split_at_mut-rows.ensures.value c.split_at_mut-rows.ensures.front_len c.make_rows.ensures
           (code_of (g.C.LineCode.encode c.args.code.now) (g.C.LineCode.decode c.args.code.now)) c.args.number (g.T.Playable.tracks c.args.tape.now)
-          (g.T.Playable.tracks c.store-rows.new.tape) c.store-rows.ensures.tape;
+          (g.T.Playable.tracks c.store_rows.new.tape) c.store_rows.ensures.tape;
     }

@@ -6,12 +6,21 @@ use Rattle.writing.specs.Rows.{row_in}
 use Rattle.writing.proofs.TapeSteps.{tracks-none, tracks-more, tracks-all}
 use Rattle.writing.proofs.group.store_rows.Goals as goal
 
-pub store-track-requires : goal.store-track-requires
-store-track-requires g c =
+pub store_track-requires : goal.store_track-requires
+store_track-requires g c =
     let d : 2912 * c.loop-t.t + 2912 - 2912 * c.loop-t.t ≡ 2912 = omega arith in
     let l : length (take (2912 * c.loop-t.t + 2912 - 2912 * c.loop-t.t) (drop (2912 * c.loop-t.t) c.args.rows.now)) ≡ 2912 =
     simp (length-take, length-drop) (omega (arith, c.requires.rows_len)) in
-    (c.requires.number_nonzero, c.loop-t-test.true, omega (arith, c.requires.number_in_bounds, c.loop-t.invariant.0.size), l, c.requires.numbers_len, c.requires.by_index, c.loop-t.invariant.2, c.loop-t.invariant.3)
+    record {
+      number_nonzero = c.requires.number_nonzero;
+      t_bound = c.loop-t-test.true;
+      number_in_bounds = omega (arith, c.requires.number_in_bounds, c.loop-t.invariant.0.size);
+      row_len = l;
+      numbers_len = c.requires.numbers_len;
+      by_index = c.requires.by_index;
+      array_len = c.loop-t.invariant.2;
+      buffer_len = c.loop-t.invariant.3;
+    }
 
 pub loop-t-init : goal.loop-t-init
 loop-t-init g c = (
@@ -30,12 +39,12 @@ loop-t-preserved g c =
     let t = c.loop-t.t in
     let us = g.T.Playable.tracks c.loop-t.tape in
     let d : 2912 * t + 2912 - 2912 * t ≡ 2912 = omega arith in (
-      tracks-more f base (g.T.Playable.tracks c.args.tape.now) us (g.T.Playable.tracks c.store-track.new.tape) t (omega (arith, c.requires.number_nonzero, c.requires.number_in_bounds))
-          (c.store-track.ensures.tape
+      tracks-more f base (g.T.Playable.tracks c.args.tape.now) us (g.T.Playable.tracks c.store_track.new.tape) t (omega (arith, c.requires.number_nonzero, c.requires.number_in_bounds))
+          (c.store_track.ensures.tape
           ∙ ap (λ n. set us (base + t) (Some (track k (address c.args.number t) (array_of (take n (drop (2912 * t) c.args.rows.now)))))) d) c.loop-t.invariant.0,
-      c.store-track.ensures.kept ∙ c.loop-t.invariant.1,
-      c.store-track.auto.array ∙ c.loop-t.invariant.2,
-      c.store-track.auto.buffer ∙ c.loop-t.invariant.3,
+      c.store_track.ensures.kept ∙ c.loop-t.invariant.1,
+      c.store_track.auto.array ∙ c.loop-t.invariant.2,
+      c.store_track.auto.buffer ∙ c.loop-t.invariant.3,
     )
 
 pub returns : goal.returns

@@ -12,16 +12,16 @@ returns g c =
     let k = code_of (g.C.LineCode.encode c.args.code.now) (g.C.LineCode.decode c.args.code.now) in
     let code = c.args.code.now in
     let t = address c.args.number c.args.t in
-    let x = array_in c.make-array.new.array in
+    let x = array_in c.make_array.new.array in
     let ts = g.T.Playable.tracks c.args.tape.now in
     let at : ℕ = 46 * (c.args.number - 1) + c.args.t in
     let lawful : Lawful k = record { words = g.met.C.LineCode.narrow code; bytes = g.met.C.LineCode.bytes code; law = g.met.C.LineCode.back code } in
     let valid : Valid t = record { frames = omega arith; signs = omega arith } in
-    let b : (i : ℕ) → get_or c.make-array.new.array i 0 < 256 = λ i. search rules in
+    let b : (i : ℕ) → get_or c.make_array.new.array i 0 < 256 = λ i. search rules in
     let l : at < length ts = omega (arith, c.requires.number_nonzero, c.requires.t_bound, c.requires.number_in_bounds) in
     record {
       kept = c.store.ensures.kept;
       tape =
-          c.store.ensures.tape ∙ ap (stored ts at) c.send-track.ensures ∙ track-stored k t x lawful valid (λ b' s. b (32 * b' + s)) ts at l
-          ∙ ap (λ ws. set ts at (Some ws)) (track-same k t x (array_of c.args.row.now) c.make-array.ensures);
+          c.store.ensures.tape ∙ ap (stored ts at) c.send_track.ensures ∙ track-stored k t x lawful valid (λ b' s. b (32 * b' + s)) ts at l
+          ∙ ap (λ ws. set ts at (Some ws)) (track-same k t x (array_of c.args.row.now) c.make_array.ensures);
     }

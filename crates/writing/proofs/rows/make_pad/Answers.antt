@@ -15,8 +15,8 @@ loop-d-preserved c =
     let s = c.args.start in
     let d = c.loop-d.d in
     let n : 8 * d + 8 ≡ 8 * (d + 1) = omega arith in
-    let v : c.next-byte-byte.result.0 ≡ pad_at t s d = c.next-byte-byte.ensures.byte ∙ ap (output t 8) c.loop-d.invariant.0 in (
-      c.next-byte-byte.ensures.next ∙ ap (steps t 8) c.loop-d.invariant.0 ∙ steps-add t 8 (8 * d) s ∙ ap (λ m. steps t m s) n,
-      c.next-byte-byte.ensures.below,
+    let v : c.next_byte-byte.result.0 ≡ pad_at t s d = c.next_byte-byte.ensures.byte ∙ ap (output t 8) c.loop-d.invariant.0 in (
+      c.next_byte-byte.ensures.next ∙ ap (steps t 8) c.loop-d.invariant.0 ∙ steps-add t 8 (8 * d) s ∙ ap (λ m. steps t m s) n,
+      c.next_byte-byte.ensures.below,
       simp v (fill_by_more (pad_at t s) c.loop-d.pad d 0 (omega arith) c.loop-d.invariant.2),
     )

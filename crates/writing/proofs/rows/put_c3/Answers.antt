@@ -6,9 +6,16 @@ use Rattle.writing.specs.Rows.{c3_filled}
 use Rattle.writing.proofs.Passes.{c3-split, c3-places, Passed, passed_none, one_more}
 use Rattle.writing.proofs.rows.put_c3.Goals as goal
 
-pub fill-interleaved-requires : goal.fill-interleaved-requires
+pub fill_interleaved-requires : goal.fill_interleaved-requires
 unfolding c3_checks which
-fill-interleaved-requires c = (λ j h. omega (arith, c.loop-w.invariant.0), lit< tt, lit< tt, c3-places, lit≤ tt)
+fill_interleaved-requires c =
+    record {
+      reaches = λ j h. omega (arith, c.loop-w.invariant.0);
+      stride_nonzero = lit< tt;
+      n_bound = lit< tt;
+      places = c3-places;
+      lost_len_bound = lit≤ tt;
+    }
 
 pub loop-w-init : goal.loop-w-init
 loop-w-init c = (c.requires, passed_none 2 c3_checks 133952 2912 46 (λ p. (p % 2912 + 2910) % 2912) (λ p. p / 2912) (λ p. p % 2912) c.args.bench.now)
@@ -20,12 +27,12 @@ loop-w-preserved c =
     let w = c.loop-w.w in
     let e : w + 2 ≡ (w + 2) % 2912 = omega arith in
     let l : w < 2912 = omega arith in (
-      omega (arith, c.fill-interleaved.auto.memory, c.loop-w.invariant.0),
+      omega (arith, c.fill_interleaved.auto.memory, c.loop-w.invariant.0),
       one_more 2 c3_checks 133952 2912 2912 46 (λ p. (p % 2912 + 2910) % 2912) (λ p. p / 2912) (λ p. p % 2912) (λ w. (w + 2) % 2912) c3-split (lit≤ tt) c3-places refl
-          c.args.bench.now c.loop-w.bench c.fill-interleaved.new.memory w l (λ j h. omega arith) b c.loop-w.invariant.1
-          c.fill-interleaved.result
-          (subst (λ s. MatchBool c.fill-interleaved.result (Refilled 2 c3_checks c.loop-w.bench c.fill-interleaved.new.memory s 2912 46) (Unfilled 2 c3_checks c.loop-w.bench c.fill-interleaved.new.memory s 2912 46))
-          e c.fill-interleaved.ensures),
+          c.args.bench.now c.loop-w.bench c.fill_interleaved.new.memory w l (λ j h. omega arith) b c.loop-w.invariant.1
+          c.fill_interleaved.result
+          (subst (λ s. MatchBool c.fill_interleaved.result (Refilled 2 c3_checks c.loop-w.bench c.fill_interleaved.new.memory s 2912 46) (Unfilled 2 c3_checks c.loop-w.bench c.fill_interleaved.new.memory s 2912 46))
+          e c.fill_interleaved.ensures),
     )
 
 pub returns : goal.returns

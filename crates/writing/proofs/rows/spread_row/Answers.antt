@@ -8,8 +8,8 @@ loop-q-init c = row-none (plain_at c.args.group.now c.args.pad.now c.args.k) c.a
 
 pub loop-q-preserved : goal.loop-q-preserved
 loop-q-preserved c =
-    row_more (plain_at c.args.group.now c.args.pad.now c.args.k) c.args.bench.now c.loop-q.bench c.args.k c.loop-q.q c.unchecked-byte.result
-    c.loop-q-test.true (omega (arith, c.loop-q.auto.bench, c.requires.in_bounds)) c.unchecked-byte.ensures c.loop-q.invariant
+    row_more (plain_at c.args.group.now c.args.pad.now c.args.k) c.args.bench.now c.loop-q.bench c.args.k c.loop-q.q c.unchecked_byte.result
+    c.loop-q-test.true (omega (arith, c.loop-q.auto.bench, c.requires.in_bounds)) c.unchecked_byte.ensures c.loop-q.invariant
 
 pub returns : goal.returns
 returns c =

@@ -12,13 +12,13 @@ loop-s-init g c =
     let t = address c.args.group c.args.t in
     let x = array_in c.args.array.now in
     let b = c.args.b in
-    let zero = sent-sync k t x c.args.words.now c.args.before b c.sync-after.result c.requires.b_bound c.sync-after.ensures c.requires.sent in
-    let one = sent-at k t x _ c.send-after-one.new.words _ c.send-after-one.result b 1 c.first-label-w1.result _ (36 * b + 1) (36 * b + 2)
-    c.requires.b_bound (lit< tt) (lit< tt) (omega arith) refl (omega arith) (c.first-label-w1.ensures ∙ at_one t x b) c.send-after-one.ensures.next c.send-after-one.ensures.words zero in
-    let two = sent-at k t x _ c.send-after-two.new.words _ c.send-after-two.result b 2 b _ (36 * b + 2) (36 * b + 3)
-    c.requires.b_bound (lit< tt) (lit< tt) (omega arith) refl (omega arith) (at-two t x b) c.send-after-two.ensures.next c.send-after-two.ensures.words one in
-    sent-at k t x _ c.send-state.new.words _ c.send-state.result b 3 (bit_xor c.first-label-w1.result b) _ (36 * b + 3) _
-    c.requires.b_bound (lit< tt) (lit< tt) (omega arith) refl (omega arith) (ap (λ w. bit_xor w b) c.first-label-w1.ensures ∙ at-three t x b) c.send-state.ensures.next c.send-state.ensures.words two
+    let zero = sent-sync k t x c.args.words.now c.args.before b c.sync_after.result c.requires.b_bound c.sync_after.ensures c.requires.sent in
+    let one = sent-at k t x _ c.send-after_one.new.words _ c.send-after_one.result b 1 c.first_label-w1.result _ (36 * b + 1) (36 * b + 2)
+    c.requires.b_bound (lit< tt) (lit< tt) (omega arith) refl (omega arith) (c.first_label-w1.ensures ∙ at_one t x b) c.send-after_one.ensures.next c.send-after_one.ensures.words zero in
+    let two = sent-at k t x _ c.send-after_two.new.words _ c.send-after_two.result b 2 b _ (36 * b + 2) (36 * b + 3)
+    c.requires.b_bound (lit< tt) (lit< tt) (omega arith) refl (omega arith) (at-two t x b) c.send-after_two.ensures.next c.send-after_two.ensures.words one in
+    sent-at k t x _ c.send-state.new.words _ c.send-state.result b 3 (bit_xor c.first_label-w1.result b) _ (36 * b + 3) _
+    c.requires.b_bound (lit< tt) (lit< tt) (omega arith) refl (omega arith) (ap (λ w. bit_xor w b) c.first_label-w1.ensures ∙ at-three t x b) c.send-state.ensures.next c.send-state.ensures.words two
 
 pub loop-s-preserved : goal.loop-s-preserved
 loop-s-preserved g c =
