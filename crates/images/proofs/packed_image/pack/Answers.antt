@@ -12,9 +12,9 @@ loop-q-preserved c =
     let ws = c.args.words.now in
     let q = c.loop-q.q in
     let four : q * 4 + 4 - q * 4 ≡ 4 = omega arith in
-    let part = c.join-words-forty.ensures ∙ ap (λ (n : ℕ). from_words (take n (drop (q * 4) ws))) four in
-    chain_more 5 (packed_at ws) (five-long ws) c.args.bytes.now c.loop-q.bytes c.split-bytes.new.bytes q (q * 5 + 5 - q * 5)
-    c.loop-q.invariant (c.split-bytes.ensures ∙ ap five_bytes part) (omega arith)
+    let part = c.join_words-forty.ensures ∙ ap (λ (n : ℕ). from_words (take n (drop (q * 4) ws))) four in
+    chain_more 5 (packed_at ws) (five-long ws) c.args.bytes.now c.loop-q.bytes c.split_bytes.new.bytes q (q * 5 + 5 - q * 5)
+    c.loop-q.invariant (c.split_bytes.ensures ∙ ap five_bytes part) (omega arith)
 
 pub returns : goal.returns
 returns c =

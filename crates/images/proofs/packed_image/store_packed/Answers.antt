@@ -7,7 +7,7 @@ use Rattle.images.proofs.packed_image.store_packed.Goals as goal
 
 pub returns : goal.returns
 returns c =
-    let h = c.in-ok-storable.ensures in
+    let h = c.in_ok-storable.ensures in
     let m = c.args.memory.now in
     let b = c.args.buffer.now in
     let at = c.args.track * 5761 in

@@ -12,9 +12,9 @@ loop-q-preserved c =
     let bs = c.args.bytes.now in
     let q = c.loop-q.q in
     let five : q * 5 + 5 - q * 5 ≡ 5 = omega arith in
-    let part = c.join-bytes-forty.ensures ∙ ap (λ (n : ℕ). from_bytes (take n (drop (q * 5) bs))) five in
-    chain_more 4 (unpacked_at bs) (four-long bs) c.args.words.now c.loop-q.words c.split-words.new.words q (q * 4 + 4 - q * 4)
-    c.loop-q.invariant (c.split-words.ensures ∙ ap four_words part) (omega arith)
+    let part = c.join_bytes-forty.ensures ∙ ap (λ (n : ℕ). from_bytes (take n (drop (q * 5) bs))) five in
+    chain_more 4 (unpacked_at bs) (four-long bs) c.args.words.now c.loop-q.words c.split_words.new.words q (q * 4 + 4 - q * 4)
+    c.loop-q.invariant (c.split_words.ensures ∙ ap four_words part) (omega arith)
 
 pub returns : goal.returns
 returns c =

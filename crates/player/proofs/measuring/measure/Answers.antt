@@ -11,7 +11,7 @@ loop-entry-preserved c =
     let a = cursor_of c.loop-entry.reader in
     let d = cursor_of c.next.new.self in
     let p = meant c.in-Some.entry in
-    let l = ap length c.part-of.ensures in
+    let l = ap length c.part_of.ensures in
     let f = c.finished-rows.ensures in
     let few = turn-few a d p i.0 n.answer.0 n.answer.1 n.after in
     let left = turn-left a d p i.0 n.answer.0 n.answer.1 n.after in
@@ -28,6 +28,6 @@ loop-entry-preserved c =
 pub returns : goal.returns
 returns c =
     let i = c.loop-entry.invariant in
-    let s = end-size (cursor_of c.loop-entry.reader) i.0 c.in-default.ensures.answer in
-    let f = end-finished (cursor_of c.loop-entry.reader) i.0 c.in-default.ensures.answer in
+    let s = end-size (cursor_of c.loop-entry.reader) i.0 c.in_default.ensures.answer in
+    let f = end-finished (cursor_of c.loop-entry.reader) i.0 c.in_default.ensures.answer in
     record { bytes = omega (arith, i.1); rows = omega (arith, i.2) }

@@ -6,7 +6,7 @@ use Rattle.images.proofs.packed_image.PackedImageRecordable.blank.Goals as goal
 pub returns : goal.returns
 returns c =
     let m = c.args.self.now.memory.now in
-    let e = c.blank-packed.ensures in
+    let e = c.blank_packed.ensures in
     record {
       answer = e.answer ∙ rw (length-image 5761 (lit< tt) unpacked m);
       kept = refl;

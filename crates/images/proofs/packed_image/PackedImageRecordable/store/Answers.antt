@@ -7,7 +7,7 @@ use Rattle.images.proofs.packed_image.PackedImageRecordable.store.Goals as goal
 pub returns : goal.returns
 returns c =
     let m = c.args.self.now.memory.now in
-    let e = c.store-packed.ensures in
+    let e = c.store_packed.ensures in
     record {
       answer = e.answer ∙ rw (length-image 5761 (lit< tt) unpacked m);
       kept = refl;

@@ -3,5 +3,5 @@ use Rattle.images.proofs.word_image.WordImagePlayable.fetch.Goals as goal
 
 pub returns : goal.returns
 returns c =
-    let e = c.fetch-words.ensures in
+    let e = c.fetch_words.ensures in
     record { answer = e.answer; words = e.words; sound = word_sound c.args.self.now.memory.now }

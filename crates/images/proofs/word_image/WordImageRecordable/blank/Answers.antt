@@ -6,7 +6,7 @@ use Rattle.images.proofs.word_image.WordImageRecordable.blank.Goals as goal
 pub returns : goal.returns
 returns c =
     let m = c.args.self.now.memory.now in
-    let e = c.blank-words.ensures in
+    let e = c.blank_words.ensures in
     record {
       answer = e.answer ∙ rw (length-image 4609 (lit< tt) (map capped) m);
       kept = refl;

@@ -7,7 +7,7 @@ use Rattle.images.proofs.word_image.WordImageRecordable.store.Goals as goal
 pub returns : goal.returns
 returns c =
     let m = c.args.self.now.memory.now in
-    let e = c.store-words.ensures in
+    let e = c.store_words.ensures in
     record {
       answer = e.answer ∙ rw (length-image 4609 (lit< tt) (map capped) m);
       kept = refl;

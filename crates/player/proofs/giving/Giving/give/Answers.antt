@@ -28,8 +28,8 @@ returns-then-items-rows c =
     let g = no_rows s ps (omega (arith, c.if-bytes-output.false, c.requires.roomy.bytes)) (omega (arith, c.if-items-rows.true, c.requires.roomy.rows)) in
     record { answer = g.answer; given = g.then }
 
-pub take-all-requires : goal.take-all-requires
-take-all-requires c =
+pub take_all-requires : goal.take_all-requires
+take_all-requires c =
     let s = shelf c.args.self.now c.args.output.now c.args.rows.now in
     let e = starts_with c.args.group.now (cursor_of c.in-Some.reader) c.requires.size c.requires.few c.in-Some.ensures.1 in
     let b = c.measure-bytes.ensures.bytes ∙ ap size_in e in
@@ -46,5 +46,5 @@ returns c =
     let e = starts_with c.args.group.now (cursor_of c.in-Some.reader) c.requires.size c.requires.few c.in-Some.ensures.1 in
     let b = c.measure-bytes.ensures.bytes ∙ ap size_in e in
     let f = c.measure-bytes.ensures.rows ∙ ap finished_in e in
-    let g = room s ps (omega (arith, c.if-bytes-output.false, c.requires.roomy.bytes)) (omega (arith, c.if-items-rows.false, c.requires.roomy.rows)) _ (c.take-all.ensures ∙ ap (laid_all s) e) in
+    let g = room s ps (omega (arith, c.if-bytes-output.false, c.requires.roomy.bytes)) (omega (arith, c.if-items-rows.false, c.requires.roomy.rows)) _ (c.take_all.ensures ∙ ap (laid_all s) e) in
     record { answer = g.answer; given = g.then }

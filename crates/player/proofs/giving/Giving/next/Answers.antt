@@ -18,22 +18,22 @@ give-requires c =
     let g = c.args.group.now in
     let p = c.requires.somewhere in
     let r =
-    next-roomy p.out p.rows p.upto w s p.stands (standing w).0 g c.in-ok-ending.ending c.group.result (state_counts (standing c.group.new.self)) (get_or g 126616 0)
-    c.in-ok-ending.ensures (walk_group (standing w).0 p.upto (read_group g)) refl (c.group.ensures.walked p.upto p.stands.numbers c.requires.size) in
+    next-roomy p.out p.rows p.upto w s p.stands (standing w).0 g c.in_ok-ending.ending c.group.result (state_counts (standing c.group.new.self)) (get_or g 126616 0)
+    c.in_ok-ending.ensures (walk_group (standing w).0 p.upto (read_group g)) refl (c.group.ensures.walked p.upto p.stands.numbers c.requires.size) in
     record { size = c.requires.size; few = r.0; roomy = r.1 }
 
-pub returns-in-err-give : goal.returns-in-err-give
-returns-in-err-give c out old b t =
+pub returns-in_err-give : goal.returns-in_err-give
+returns-in_err-give c out old b t =
     let s = shelf c.args.self.now c.args.output.now c.args.rows.now in
     let w = c.args.walk.now in
     let g = c.args.group.now in
-    let e = c.in-ok-ending.ending in
-    let x = err_from_is_err_and c.from-residual-in-err-give.result c.from-residual-in-err-give.ensures.1 in
-    let q = c.in-ok-ending.ensures in
+    let e = c.in_ok-ending.ending in
+    let x = err_from_is_err_and c.from_residual-in_err-give.result c.from_residual-in_err-give.ensures.1 in
+    let q = c.in_ok-ending.ensures in
     next-went out old b w s t (standing w).0 g e c.group.result (state_counts (standing c.group.new.self)) (get_or g 126616 0) q
-    c.group.new.self (shelf c.give.new.self c.give.new.output c.give.new.rows) c.from-residual-in-err-give.result refl
+    c.group.new.self (shelf c.give.new.self c.give.new.output c.give.new.rows) c.from_residual-in_err-give.result refl
     (ap (λ (y : ℕ × State × Counts). y.0) c.group.ensures.after ∙ number-on w g e (q ∙ ap cause_in c.group.ensures.answer))
-    (x.1 ∙ (ap Err x.2 ∙ ap (and_ending e) c.in-err-give.ensures.answer)) c.in-err-give.ensures.given
+    (x.1 ∙ (ap Err x.2 ∙ ap (and_ending e) c.in_err-give.ensures.answer)) c.in_err-give.ensures.given
     (walk_group (standing w).0 b (read_group g)) refl (c.group.ensures.walked b t.numbers c.requires.size)
 
 pub returns : goal.returns
@@ -41,10 +41,10 @@ returns c out old b t =
     let s = shelf c.args.self.now c.args.output.now c.args.rows.now in
     let w = c.args.walk.now in
     let g = c.args.group.now in
-    let e = c.in-ok-ending.ending in
-    let q = c.in-ok-ending.ensures in
+    let e = c.in_ok-ending.ending in
+    let q = c.in_ok-ending.ensures in
     next-went out old b w s t (standing w).0 g e c.group.result (state_counts (standing c.group.new.self)) (get_or g 126616 0) q
     c.group.new.self (shelf c.give.new.self c.give.new.output c.give.new.rows) (Ok e) refl
     (ap (λ (y : ℕ × State × Counts). y.0) c.group.ensures.after ∙ number-on w g e (q ∙ ap cause_in c.group.ensures.answer))
-    (ap (and_ending e) c.in-ok-give.ensures.answer) c.in-ok-give.ensures.given
+    (ap (and_ending e) c.in_ok-give.ensures.answer) c.in_ok-give.ensures.given
     (walk_group (standing w).0 b (read_group g)) refl (c.group.ensures.walked b t.numbers c.requires.size)

@@ -29,4 +29,4 @@ loop-entry-preserved c =
 pub returns : goal.returns
 returns c =
     let i = c.loop-entry.invariant in
-    sym (end-laid (cursor_of c.loop-entry.reader) i.0 c.in-default.ensures.answer (shelf c.loop-entry.self c.loop-entry.output c.loop-entry.rows)) ∙ i.2
+    sym (end-laid (cursor_of c.loop-entry.reader) i.0 c.in_default.ensures.answer (shelf c.loop-entry.self c.loop-entry.output c.loop-entry.rows)) ∙ i.2

@@ -10,13 +10,13 @@ returns g c =
     let k = code_of (g.C.LineCode.encode c.args.code.now) (g.C.LineCode.decode c.args.code.now) in
     let l = c.args.self.now in
     let h : Held = record { book = book_of l; group = c.args.group.now } in
-    let e = c.complete-group.ensures in
-    let w = c.write-group.ensures in
+    let e = c.complete_group.ensures in
+    let w = c.write_group.ensures in
     record {
       group = search rules;
       tape =
-          group-taped k h (g.T.Playable.tracks c.args.tape.now) (g.T.Playable.tracks c.write-group.new.tape) c.args.last (length c.args.buffer.now) (length c.args.bench.now)
-          c.complete-group.new.group c.complete-group.result c.write-group.result c.requires.size l.warning l.fits c.requires.tap c.requires.start l.first c.requires.tape
-          c.requires.buffer c.requires.bench e.answer e.held c.complete-group.auto.group w.answer w.tape;
+          group-taped k h (g.T.Playable.tracks c.args.tape.now) (g.T.Playable.tracks c.write_group.new.tape) c.args.last (length c.args.buffer.now) (length c.args.bench.now)
+          c.complete_group.new.group c.complete_group.result c.write_group.result c.requires.size l.warning l.fits c.requires.tap c.requires.start l.first c.requires.tape
+          c.requires.buffer c.requires.bench e.answer e.held c.complete_group.auto.group w.answer w.tape;
       kept = w.kept;
     }

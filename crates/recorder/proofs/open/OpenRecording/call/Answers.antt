@@ -22,5 +22,5 @@ returns-in-Record g c =
       bench = r.bench ∙ ap (λ (a : Call). spent m a d c.args.bench.now) e;
       buffer = r.buffer ∙ ap (λ (a : Call). spent m a d c.args.buffer.now) e;
       same = r.same;
-      sends = subst Sends e c.are-bytes.ensures;
+      sends = subst Sends e c.are_bytes.ensures;
     }

@@ -11,22 +11,22 @@ pub loop-rest-preserved : goal.loop-rest-preserved
 loop-rest-preserved g c =
     let k = code_of (g.C.LineCode.encode c.args.code.now) (g.C.LineCode.decode c.args.code.now) in
     let i = c.loop-rest.invariant in
-    let s = c.store-part.ensures in (
+    let s = c.store_part.ensures in (
       resting-more k c.args.total (c.free-part.result - 4) c.args.rest.now c.loop-rest.rest.now _ _ _ i.0
           (omega (arith, c.loop-rest-test.true, c.free.ensures)) (ap (λ x. x - 4) c.free-part.ensures) s.desk s.tape,
       s.size,
       s.tape ∙ i.2,
       s.kept ∙ i.3,
       s.same ∙ i.4,
-      c.store-part.auto.bench ∙ i.5,
-      c.store-part.auto.buffer ∙ i.6,
+      c.store_part.auto.bench ∙ i.5,
+      c.store_part.auto.buffer ∙ i.6,
     )
 
 pub returns : goal.returns
 returns g c =
     let k = code_of (g.C.LineCode.encode c.args.code.now) (g.C.LineCode.decode c.args.code.now) in
     let i = c.loop-rest.invariant in
-    let r = c.make-room.ensures in
+    let r = c.make_room.ensures in
     let rest = c.loop-rest.rest.now in
     record {
       desk =
