@@ -31,16 +31,16 @@ unfolding done_all
 admits-done c m a d = admits-kept c m (a ∷ []) d
 
 -- closing clears what the calls before it left
-spent_all : (c : Code) (m : Lent) (cs : List Call) (d : Desk) (xs : List ℕ) → cleared (admits m d) (spent_all c m cs d xs) ≡ cleared (admits m d) xs
+cleared-spent_all : (c : Code) (m : Lent) (cs : List Call) (d : Desk) (xs : List ℕ) → cleared (admits m d) (spent_all c m cs d xs) ≡ cleared (admits m d) xs
 unfolding spent_all
-spent_all c m [] d xs = refl
-spent_all c m (a ∷ cs) d xs =
+cleared-spent_all c m [] d xs = refl
+cleared-spent_all c m (a ∷ cs) d xs =
     ap (λ (r : Answer). cleared r (spent_all c m cs (done_to c m a d) (spent m a d xs))) (sym (admits-done c m a d))
-    ∙ (spent_all c m cs (done_to c m a d) (spent m a d xs)
+    ∙ (cleared-spent_all c m cs (done_to c m a d) (spent m a d xs)
     ∙ (ap (λ (r : Answer). cleared r (spent m a d xs)) (admits-done c m a d) ∙ spent-once m a d xs))
 
 pub lent-after : (c : Code) (m : Lent) (cs : List Call) (d : Desk) (xs : List ℕ) → cleared (admits m (done_all c m cs d)) (spent_all c m cs d xs) ≡ cleared (admits m d) xs
-lent-after c m cs d xs = ap (λ (r : Answer). cleared r (spent_all c m cs d xs)) (admits-kept c m cs d) ∙ spent_all c m cs d xs
+lent-after c m cs d xs = ap (λ (r : Answer). cleared r (spent_all c m cs d xs)) (admits-kept c m cs d) ∙ cleared-spent_all c m cs d xs
 
 carried-out : (r : Answer) → decline_of r ≡ None → r ≡ Ok tt
 carried-out (Ok tt) e = refl
