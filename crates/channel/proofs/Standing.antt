@@ -1,15 +1,12 @@
-use Rattle.std.proofs.Common.{◌≡◌, ℕ, suc, ◌+◌, ◌*◌, ◌/◌, ◌%◌, ◌<◌, ◌≤◌, Bool, true, false, cond, ltb, List, [], ◌∷◌, length, get_or, Some, Ok, Err, Option, Result, sym, refl, ap, ◌∙◌, ⊎_elim, arith, lit<}
+use Rattle.std.proofs.Common.{◌≡◌, ℕ, suc, ◌+◌, ◌*◌, ◌/◌, ◌<◌, ◌≤◌, List, [], ◌∷◌, length, get_or, Some, Ok, Err, Option, sym, refl, ap, ◌∙◌, ⊎_elim, arith, lit<}
 use Rattle.std.proofs.lemmas.Nat.{mod_below}
 use Rattle.std.proofs.lemmas.Bool.{cases_lt, lt-ltb, le-ltb}
-use Rattle.std.specs.List.{AllByRecursion}
 use Rattle.channel.specs.declared.state.State.{State}
-use Rattle.channel.specs.declared.state.State.TheVariants.{Zero, One}
 use Rattle.channel.specs.declared.fault.SheetFault.{SheetFault}
 use Rattle.channel.specs.declared.fault.SheetFault.TheVariants.{WrongCount, WideNumber, SharedWord}
 use Rattle.channel.specs.States.{state_number}
-use Rattle.channel.specs.Codes.{place, word_of, next_of, byte_of, sheet_encode, sheet_decode, Good, Narrow, Wide, Apart, Shared}
-use Rattle.channel.specs.Faults.{Declined, SheetVerdict}
-use Rattle.channel.specs.Listed.{encode_all, decode_all, lost_of, or_zero, is_lost}
+use Rattle.channel.specs.Codes.{place, word_of, next_of, sheet_encode, Good, Narrow, Wide, Apart, Shared}
+use Rattle.channel.specs.Faults.{Declined}
 use Rattle.channel.specs.Stand.{GoodSheetsServe, DecodesNoMore, SharedWordsServeNever, OneVerdict, SeriesComeBack, SeriesFit, SeriesJoin}
 use Rattle.channel.specs.Laws.{byte_of-some, sheet-back, place-below, place_of}
 

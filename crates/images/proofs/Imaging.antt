@@ -1,5 +1,5 @@
 -- Laws of images in memory, over the number of numbers a track and what they mean.
-use Rattle.std.proofs.Common.{◌≡◌, ℕ, ◌+◌, ◌-◌, ◌*◌, ◌/◌, ◌<◌, ◌≤◌, true, false, cond, eqb, ◌⊎◌, List, ◌∷◌, length, get_or, drop, set, Some, None, Ok, Err, sym, ap, ◌∙◌, inl, inr, ⊎_elim, add-zero, zero-add, arith}
+use Rattle.std.proofs.Common.{◌≡◌, ℕ, ◌+◌, ◌*◌, ◌/◌, ◌<◌, ◌≤◌, true, false, cond, eqb, ◌⊎◌, List, ◌∷◌, length, get_or, drop, set, Some, None, Ok, Err, sym, ap, ◌∙◌, inl, inr, ⊎_elim, add-zero, zero-add, arith}
 use lib.Seq.{paste}
 use Rattle.std.proofs.lemmas.List.FromFn.{length-map-range_with_len, get_or-map-range_with_len}
 use Rattle.std.proofs.lemmas.List.{length-set, get_or-set_same, get_or-set_other, ext_get_or}

@@ -1,8 +1,8 @@
 -- Laws of the packed image.
-use Rattle.std.proofs.Common.{◌≡◌, ℕ, zero, suc, ◌+◌, ◌-◌, ◌*◌, ◌/◌, ◌%◌, ◌^◌, ◌<◌, List, [], ◌∷◌, length, get_or, drop, set, Some, sym, refl, ap, ◌∙◌, mod-eq_of_lt, div-add-mod', arith, lit<}
+use Rattle.std.proofs.Common.{◌≡◌, ℕ, zero, suc, ◌+◌, ◌*◌, ◌/◌, ◌%◌, ◌^◌, ◌<◌, List, [], ◌∷◌, length, get_or, drop, set, Some, sym, refl, ap, ◌∙◌, mod-eq_of_lt, div-add-mod', arith, lit<}
 use native.Mathlib.Nat.{div-div-eq-div-mul}
 use Rattle.std.proofs.lemmas.List.{take_all}
-use Rattle.tape.specs.Tape.{Sound, SoundTrack, narrow, stored}
+use Rattle.tape.specs.Tape.{Sound, SoundTrack, stored}
 use Rattle.images.specs.Images.{part, from_bytes, from_words, five_bytes, four_words, packed, unpacked, packed_at, unpacked_at, packed_tracks, packed_stored}
 use Rattle.tape.proofs.Answering.{narrow-get, storing-ok}
 use Rattle.images.proofs.Cutting.{length_part, get_d_part}

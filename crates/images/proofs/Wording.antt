@@ -1,8 +1,8 @@
 -- Laws of the word image.
-use Rattle.std.proofs.Common.{◌≡◌, ℕ, ◌-◌, ◌/◌, ◌<◌, ltb, List, map, length, get_or, drop, Some, ◌∙◌, arith, lit<}
+use Rattle.std.proofs.Common.{◌≡◌, ℕ, ◌/◌, ◌<◌, ltb, List, map, length, get_or, drop, Some, ◌∙◌, arith, lit<}
 use Rattle.std.proofs.lemmas.List.{length-map, length-drop, get_or-map, ext_get_or}
 use Rattle.std.proofs.lemmas.Bool.{cond-true, cond_both, lt-ltb, ltb-true}
-use Rattle.tape.specs.Tape.{Sound, SoundTrack, narrow, stored}
+use Rattle.tape.specs.Tape.{Sound, SoundTrack, stored}
 use Rattle.images.specs.Images.{capped, word_tracks, word_stored}
 use Rattle.tape.proofs.Answering.{narrow-get, storing-ok}
 use Rattle.images.proofs.Imaging.{image-sound, image-stored}

@@ -1,10 +1,10 @@
 -- The next entry of an index, as the code reads it.
-use Rattle.std.proofs.Common.{◌≡◌, ℕ, zero, suc, ◌+◌, ◌-◌, ◌*◌, ◌/◌, ◌%◌, ◌^◌, ◌<◌, ◌≤◌, Bool, true, false, cond, ◌&&◌, eqb, ltb, leb, List, [], ◌∷◌, length, get_or, take, drop, sym, refl, ap, ◌∙◌, ap₂, arith, length-drop, length-take}
+use Rattle.std.proofs.Common.{◌≡◌, ℕ, zero, suc, ◌+◌, ◌-◌, ◌*◌, ◌/◌, ◌%◌, ◌<◌, ◌≤◌, Bool, true, false, cond, ◌&&◌, eqb, ltb, leb, List, [], ◌∷◌, length, get_or, take, drop, sym, refl, ap, ◌∙◌, ap₂, arith, length-drop, length-take}
 use Rattle.std.proofs.lemmas.Bool.{lt-ltb, le-leb, ltb-true, ltb-false, leb-true, leb-false, cond-true, and_from, and_parts, ne_eqb}
 use Rattle.std.proofs.lemmas.List.{get_or-take, take-take, length-take-le}
 use Rattle.index.specs.declared.kind.Kind.{Kind}
 use Rattle.index.specs.Entries.{Entry}
-use Rattle.index.specs.Bytes.{kind_of, named, number, entry_with, read_entry, read_at, read_entries, EntryTaken}
+use Rattle.index.specs.Bytes.{kind_of, named, number, entry_with, read_entry, read_entries, EntryTaken}
 use Rattle.index.specs.Walk.{none}
 use Rattle.index.specs.Cursors.{Cursor, Sound, started_with, remaining, ahead, coming, advanced}
 

@@ -1,5 +1,5 @@
 -- Walking by numbers agrees with walking.
-use Rattle.std.proofs.Common.{◌≡◌, ℕ, zero, suc, ◌+◌, ◌-◌, ◌*◌, ◌<◌, ◌≤◌, Bool, true, false, cond, ◌&&◌, eqb, ltb, leb, List, [], ◌∷◌, ◌++◌, length, get_or, Ok, Err, Result, sym, refl, ap, ◌∙◌, subst, ap₂, add-zero, arith, length-append}
+use Rattle.std.proofs.Common.{◌≡◌, ℕ, zero, suc, ◌+◌, ◌-◌, ◌*◌, ◌<◌, Bool, true, false, cond, ◌&&◌, eqb, ltb, leb, List, [], ◌∷◌, ◌++◌, length, get_or, Ok, Err, Result, sym, refl, ap, ◌∙◌, ap₂, add-zero, arith, length-append}
 use Rattle.std.proofs.lemmas.List.{append-nil}
 use Rattle.std.proofs.lemmas.Bool.{ltb-true}
 use Rattle.index.specs.declared.kind.Kind.{Kind}
@@ -9,12 +9,11 @@ use Rattle.index.specs.declared.fault.IndexFault.TheVariants.{GroupNumber, Entry
 use Rattle.index.specs.declared.succession.State.{State}
 use Rattle.index.specs.declared.tally.Counts.{Counts}
 use Rattle.index.specs.declared.tally.Tally.{Tally}
-use Rattle.index.specs.declared.table.Table.{Table}
-use Rattle.index.specs.Entries.{Entry, Item, Group, finishes, marks}
-use Rattle.index.specs.Succession.{known, permits, begins, continues, totals, ends, ended, moved, moved_inside, moved_idle, parts_sum, count_fits}
+use Rattle.index.specs.Entries.{Entry, Item}
+use Rattle.index.specs.Succession.{known, begins, continues, totals, ended, moved, moved_inside, moved_idle, count_fits}
 use Rattle.index.specs.Walk.{Position, Position.idle, Position.begun, Position.inside, Position.owing, Position.owed, Walk, Between, state_of, allowed, closes, skipped, counts, after, from_idle, from_inside, gives, idle_gives, next, step, close, whole, none, of_kind, opening, left_open, summed, walk_group}
 use Rattle.index.specs.Bytes.{number, empty, read_entries, read_group, read_entry}
-use Rattle.index.specs.Counted.{counts_of, counted, tally_of, stepped, closed, tallied, table_checked, totals_checked, table_in, opened, entries_tallied, group_tallied, on_ok, numbers_of, numbers_in, Agreed}
+use Rattle.index.specs.Counted.{counts_of, counted, tally_of, stepped, closed, tallied, totals_checked, table_in, opened, entries_tallied, group_tallied, on_ok, numbers_of, numbers_in, Agreed}
 use Rattle.index.proofs.Walks.{length-snoc, of_kind-snoc}
 
 -- the state after an entry

@@ -1,20 +1,19 @@
 -- The answer of a walk for a group is that of walking the group.
-use Rattle.std.proofs.Common.{◌≡◌, ℕ, zero, suc, ◌+◌, ◌-◌, ◌*◌, ◌<◌, ◌≤◌, Bool, true, false, cond, ◌&&◌, eqb, ltb, leb, List, [], length, get_or, Ok, Err, Result, sym, refl, ap, ◌∙◌, subst, ap₂, arith}
+use Rattle.std.proofs.Common.{◌≡◌, ℕ, ◌+◌, ◌<◌, Bool, true, false, cond, ◌&&◌, eqb, ltb, leb, List, length, get_or, Ok, Err, Result, sym, refl, ap, ◌∙◌, arith}
 use Rattle.std.proofs.lemmas.Bool.{eqb-true, eq-eqb, cond-true}
 use Rattle.index.specs.declared.fault.IndexFault.{IndexFault}
 use Rattle.index.specs.declared.fault.IndexFault.TheVariants.{GroupNumber, EntryCount, LastByte, TableZeros}
 use Rattle.index.specs.declared.fault.GroupFault.{GroupFault}
-use Rattle.index.specs.declared.fault.GroupFault.TheVariants.{WrongLength, Index}
+use Rattle.index.specs.declared.fault.GroupFault.TheVariants.{Index}
 use Rattle.index.specs.declared.succession.State.{State}
-use Rattle.index.specs.declared.table.Table.{Table}
 use Rattle.index.specs.declared.tally.Counts.{Counts}
 use Rattle.index.specs.declared.tally.Tally.{Tally}
 use Rattle.index.specs.declared.walk.Walk.{Walk}
 use Rattle.index.specs.declared.walk.Ending.{Ending}
 use Rattle.index.specs.Bytes.{number, read_group}
-use Rattle.index.specs.Walk.{Between, walk_group, next, state_of}
-use Rattle.index.specs.Counted.{counts_of, group_tallied, table_checked, table_in, entries_tallied, opened, totals_checked, numbers_of, numbers_in, on_ok}
-use Rattle.index.specs.Answers.{standing, state_counts, tally_from, ending, ending_of, answered, moved_on, standing_after, Gave}
+use Rattle.index.specs.Walk.{Between, walk_group, next}
+use Rattle.index.specs.Counted.{group_tallied, table_in, entries_tallied, opened, totals_checked, numbers_of, numbers_in, on_ok}
+use Rattle.index.specs.Answers.{standing, state_counts, tally_from, ending, answered, moved_on, standing_after, Gave}
 use Rattle.index.proofs.Counting.{agreed}
 use Rattle.index.proofs.Grouping.{no-fault}
 

@@ -1,7 +1,7 @@
 -- A group by numbers, step by step.
-use Rattle.std.proofs.Common.{◌≡◌, ℕ, zero, suc, ◌+◌, ◌-◌, ◌*◌, ◌<◌, ◌≤◌, Bool, true, false, cond, ◌&&◌, eqb, ltb, leb, List, [], ◌∷◌, length, get_or, take, drop, Ok, Err, Result, sym, refl, ap, ◌∙◌, subst, ap₂, arith, length-drop, length-take}
+use Rattle.std.proofs.Common.{◌≡◌, ℕ, zero, suc, ◌+◌, ◌-◌, ◌*◌, ◌≤◌, Bool, true, false, cond, ◌&&◌, eqb, ltb, leb, List, [], ◌∷◌, length, take, drop, Ok, Err, Result, refl, ap, ◌∙◌, subst, arith, length-drop, length-take}
 use Rattle.std.proofs.lemmas.List.{length-take-le}
-use Rattle.std.proofs.lemmas.Bool.{ltb-true, leb-true, and_parts}
+use Rattle.std.proofs.lemmas.Bool.{leb-true, and_parts}
 use Rattle.index.specs.declared.fault.IndexFault.{IndexFault}
 use Rattle.index.specs.declared.fault.IndexFault.TheVariants.{GroupNumber, EntryCount, LastByte, TableZeros, Totals, OpenRecord}
 use Rattle.index.specs.declared.succession.State.{State}
@@ -11,9 +11,9 @@ use Rattle.index.specs.declared.tally.Tally.{Tally}
 use Rattle.index.specs.Entries.{Entry, used}
 use Rattle.index.specs.Succession.{parts_sum}
 use Rattle.index.specs.Walk.{next, none, left_open}
-use Rattle.index.specs.Bytes.{number, named, kind_of, read_entry, read_entries, read_group}
+use Rattle.index.specs.Bytes.{number, named, read_entry, read_entries, read_group}
 use Rattle.index.specs.Cursors.{Cursor, started_with, remaining, ReadsGroup, ReadsAll}
-use Rattle.index.specs.Counted.{stepped, closed, tallied, table_checked, totals_checked, table_in, opened, entries_tallied, group_tallied, Grown}
+use Rattle.index.specs.Counted.{stepped, closed, tallied, table_checked, totals_checked, table_in, opened, entries_tallied, group_tallied}
 use Rattle.index.proofs.Growing.{stepped-grown, closed-kept}
 use Rattle.index.proofs.Counting.{length-read}
 use Rattle.index.proofs.Coming.{started-sound, sound-advanced, remaining-more, remaining-none}

@@ -1,5 +1,5 @@
 -- What an entry adds to a tally.
-use Rattle.std.proofs.Common.{◌≡◌, ℕ, zero, suc, ◌+◌, ◌-◌, ◌*◌, ◌<◌, ◌≤◌, Bool, true, false, cond, ◌&&◌, eqb, List, [], ◌∷◌, length, Ok, Err, Result, sym, refl, ap, ◌∙◌, subst, arith}
+use Rattle.std.proofs.Common.{◌≡◌, ℕ, ◌+◌, ◌≤◌, Bool, true, false, cond, ◌&&◌, eqb, length, Ok, Err, Result, refl, ap, ◌∙◌, subst, arith}
 use Rattle.index.specs.declared.kind.Kind.{Kind}
 use Rattle.index.specs.declared.kind.Kind.TheVariants.{Total, Mark, Middle, Start, Last, Entire, Skip, Unknown}
 use Rattle.index.specs.declared.fault.IndexFault.{IndexFault}

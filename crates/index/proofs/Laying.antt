@@ -1,12 +1,12 @@
 -- An entry laid into an open group, and a group completed.
-use Rattle.std.proofs.Common.{◌≡◌, ℕ, zero, suc, ◌+◌, ◌-◌, ◌*◌, ◌<◌, ◌≤◌, Bool, true, false, ◌&&◌, eqb, ltb, leb, List, [], ◌∷◌, ◌++◌, length, sym, refl, ap, ◌∙◌, ap₂, arith, length-append}
+use Rattle.std.proofs.Common.{◌≡◌, ℕ, zero, suc, ◌+◌, ◌-◌, ◌*◌, ◌<◌, ◌≤◌, true, List, [], ◌∷◌, ◌++◌, length, sym, refl, ap, ◌∙◌, ap₂, arith, length-append}
 use Rattle.std.proofs.lemmas.List.{append-nil, append_assoc}
 use Rattle.std.proofs.lemmas.Bool.{eqb-true, ltb-true, leb-true, and_parts}
 use Rattle.index.specs.declared.table.Table.{Table}
 use Rattle.index.specs.declared.tally.Counts.{Counts}
 use Rattle.index.specs.declared.writer.Fill.{Fill}
 use Rattle.index.specs.Entries.{Entry, Group, used}
-use Rattle.index.specs.Bytes.{zeros, two, four, entry_bytes, index_bytes, user_bytes, table_bytes, group_of}
+use Rattle.index.specs.Bytes.{zeros, entry_bytes, index_bytes, user_bytes, table_bytes, group_of}
 use Rattle.index.specs.Writing.{replaced, open_group, Filled, fits, entry_place, entry_laid, table_of, skip_of, completed, group_with, OpensEmpty}
 use Rattle.index.proofs.Walks.{used-snoc, length-snoc}
 use Rattle.index.proofs.Reread.{length-bytes, length-entries, length-zeros}

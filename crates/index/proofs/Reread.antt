@@ -1,12 +1,12 @@
 -- A group laid into bytes is read again.
-use Rattle.std.proofs.Common.{◌≡◌, ℕ, zero, suc, ◌+◌, ◌-◌, ◌*◌, ◌/◌, ◌%◌, ◌<◌, ◌≤◌, Bool, true, false, cond, ◌&&◌, eqb, List, [], ◌∷◌, ◌++◌, length, get_or, take, drop, replicate, sym, refl, ap, ◌∙◌, subst, ap₂, subst₂, add-zero, zero-add, arith, length-append}
+use Rattle.std.proofs.Common.{◌≡◌, ℕ, zero, suc, ◌+◌, ◌-◌, ◌*◌, ◌/◌, ◌%◌, ◌<◌, ◌≤◌, Bool, true, false, cond, ◌&&◌, eqb, List, [], ◌∷◌, ◌++◌, length, get_or, take, drop, sym, refl, ap, ◌∙◌, ap₂, arith, length-append}
 use lib.ListN.{length-replicate}
 use Rattle.std.specs.List.{AllByRecursion}
-use Rattle.std.proofs.lemmas.List.{append-nil, append_assoc, get_or-append-add, take-append-le}
+use Rattle.std.proofs.lemmas.List.{append_assoc, get_or-append-add}
 use Rattle.index.specs.declared.kind.Kind.{Kind}
 use Rattle.index.specs.declared.kind.Kind.TheVariants.{Total, Mark, Middle, Start, Last, Entire, Skip, Unknown}
 use Rattle.index.specs.Entries.{Entry, Group, used}
-use Rattle.index.specs.Bytes.{zeros, flag_of, kind_of, two, three, four, number, entry_bytes, index_bytes, user_bytes, table_bytes, group_of, named, entry_with, read_entry, read_entries, empty, read_group, Small, Sound, Whole, Reread}
+use Rattle.index.specs.Bytes.{zeros, flag_of, kind_of, number, entry_bytes, index_bytes, user_bytes, table_bytes, group_of, named, read_entry, read_entries, empty, read_group, Small, Sound, Whole, Reread}
 
 pub length-zeros : (n : ℕ) → length (zeros n) ≡ n
 unfolding zeros

@@ -1,12 +1,10 @@
 -- What a walk does at one more entry, and at one more group.
-use Rattle.std.proofs.Common.{◌≡◌, ℕ, zero, suc, ◌+◌, ◌-◌, ◌*◌, ◌<◌, ◌≤◌, Bool, true, false, cond, ◌&&◌, eqb, ltb, leb, List, [], ◌∷◌, ◌++◌, length, Ok, Err, Result, sym, refl, ap, ◌∙◌, subst, add-zero, zero-add, arith, length-append}
-use Rattle.std.proofs.lemmas.Bool.{eq-eqb, lt-ltb, le-leb, cond-true, and_from}
-use Rattle.index.specs.declared.kind.Kind.{Kind}
-use Rattle.index.specs.declared.kind.Kind.TheVariants.{Skip}
+use Rattle.std.proofs.Common.{◌≡◌, ℕ, suc, ◌+◌, true, false, cond, eqb, List, [], ◌∷◌, ◌++◌, length, Ok, Err, Result, sym, refl, ap, ◌∙◌, subst, add-zero, arith}
+use Rattle.std.proofs.lemmas.Bool.{cond-true}
 use Rattle.index.specs.Entries.{Entry, Item, Group, used}
 use Rattle.index.specs.declared.fault.IndexFault.{IndexFault}
 use Rattle.index.specs.Succession.{known}
-use Rattle.index.specs.Walk.{Position, Walk, Between, allowed, closes, skipped, counts, after, gives, next, step, close, walk, whole, none, of_kind, summed, walk_group, walk_groups}
+use Rattle.index.specs.Walk.{Walk, Between, allowed, counts, after, gives, next, step, close, walk, whole, none, of_kind, walk_group, walk_groups}
 
 pub used-snoc : (ps : List Entry) (p : Entry) → used (ps ++ (p ∷ [])) ≡ used ps + length p.bytes
 unfolding used

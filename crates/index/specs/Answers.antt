@@ -1,5 +1,5 @@
 -- What a walk over groups answers, and where it stands then.
-use Rattle.std.specs.Prelude.{◌≡◌, ℕ, ◌+◌, Bool, cond, List, [], length, Ok, Err, Result, ◌==◌, slice_index}
+use Rattle.std.specs.Prelude.{◌≡◌, ℕ, ◌+◌, cond, List, length, Ok, Err, Result, ◌==◌, slice_index}
 use Rattle.index.specs.declared.fault.IndexFault.{IndexFault}
 use Rattle.index.specs.declared.fault.GroupFault.{GroupFault}
 use Rattle.index.specs.declared.fault.GroupFault.TheVariants.{WrongLength, Index}
@@ -9,8 +9,7 @@ use Rattle.index.specs.declared.tally.Tally.{Tally}
 use Rattle.index.specs.declared.walk.Walk.{Walk}
 use Rattle.index.specs.declared.walk.Ending.{Ending}
 use Rattle.index.specs.declared.walk.Ending.TheVariants.{GoesOn, Last}
-use Rattle.index.specs.Bytes.{read_group}
-use Rattle.index.specs.Walk.{Between, walk_group}
+use Rattle.index.specs.Walk.{Between}
 use Rattle.index.specs.Counted.{group_tallied, numbers_of}
 
 -- the number of the next group, the state and the numbers

@@ -1,5 +1,5 @@
 -- Walking a group by numbers alone: of the items their numbers, of the open record the sum of its parts.
-use Rattle.std.specs.Prelude.{◌≡◌, ℕ, zero, suc, ◌+◌, ◌-◌, ◌*◌, ◌^◌, ◌<◌, ◌≤◌, Bool, true, false, cond, not, ◌&&◌, List, [], ◌∷◌, ◌++◌, length, Ok, Err, Result, ◌==◌, nat_le, nat_lt, slice_index}
+use Rattle.std.specs.Prelude.{◌≡◌, ℕ, suc, ◌+◌, ◌-◌, ◌*◌, ◌^◌, ◌<◌, ◌≤◌, cond, ◌&&◌, List, [], ◌∷◌, length, Ok, Err, Result, ◌==◌, nat_le, nat_lt, slice_index}
 use Rattle.index.specs.declared.kind.Kind.{Kind}
 use Rattle.index.specs.declared.fault.IndexFault.{IndexFault}
 use Rattle.index.specs.declared.fault.IndexFault.TheVariants.{GroupNumber, EntryCount, LastByte, TableZeros, Flag, Succession, Count, Totals, OpenRecord}
@@ -7,7 +7,7 @@ use Rattle.index.specs.declared.succession.State.{State}
 use Rattle.index.specs.declared.table.Table.{Table}
 use Rattle.index.specs.declared.tally.Counts.{Counts}
 use Rattle.index.specs.declared.tally.Tally.{Tally}
-use Rattle.index.specs.Entries.{Entry, Item, Group, finishes, marks}
+use Rattle.index.specs.Entries.{Entry, Item, finishes, marks}
 use Rattle.index.specs.Succession.{known, permits, ends, ended, moved, parts_sum, count_fits}
 use Rattle.index.specs.Walk.{Walk, Between, state_of, of_kind, next, none, left_open, walk_group}
 use Rattle.index.specs.Bytes.{number, empty, read_entries, read_group}

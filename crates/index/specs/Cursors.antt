@@ -1,5 +1,5 @@
 -- Going through the entries of an index.
-use Rattle.std.specs.Prelude.{◌≡◌, ℕ, ◌+◌, ◌-◌, ◌*◌, ◌≤◌, Bool, true, false, cond, ◌&&◌, List, [], ◌∷◌, length, take, nat_le, nat_lt}
+use Rattle.std.specs.Prelude.{◌≡◌, ℕ, ◌+◌, ◌-◌, ◌*◌, ◌≤◌, Bool, true, false, ◌&&◌, List, [], ◌∷◌, length, take, nat_le, nat_lt}
 use Rattle.index.specs.declared.reader.IndexReader.{IndexReader}
 use Rattle.index.specs.Entries.{Entry}
 use Rattle.index.specs.Bytes.{number, read_at, read_entries, read_group}

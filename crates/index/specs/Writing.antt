@@ -1,12 +1,11 @@
 -- Writing an index: bytes put in the place of others, and an open group as it fills.
-use Rattle.std.specs.Prelude.{◌≡◌, ℕ, suc, ◌+◌, ◌-◌, ◌*◌, ◌≤◌, Bool, true, cond, ◌&&◌, List, [], ◌∷◌, ◌++◌, length, take, drop, ◌==◌, nat_le, nat_lt}
-use Rattle.index.specs.declared.kind.Kind.{Kind}
+use Rattle.std.specs.Prelude.{◌≡◌, ℕ, ◌+◌, ◌-◌, ◌*◌, Bool, true, ◌&&◌, List, [], ◌∷◌, ◌++◌, length, take, drop, ◌==◌, nat_le, nat_lt}
 use Rattle.index.specs.declared.kind.Kind.TheVariants.{Skip}
 use Rattle.index.specs.declared.table.Table.{Table}
 use Rattle.index.specs.declared.tally.Counts.{Counts}
 use Rattle.index.specs.declared.writer.Fill.{Fill}
 use Rattle.index.specs.Entries.{Entry, Group, used}
-use Rattle.index.specs.Bytes.{zeros, two, four, entry_bytes, index_bytes, user_bytes, group_of}
+use Rattle.index.specs.Bytes.{zeros, two, four, entry_bytes, index_bytes, user_bytes}
 
 -- the bytes g with ys in the place of as many from place at on
 unfoldable pub replaced : List ℕ → ℕ → List ℕ → List ℕ

@@ -1,13 +1,11 @@
 -- The settled numbers, for any record of the length.
-use Rattle.std.proofs.Common.{◌≡◌, ℕ, zero, suc, ◌+◌, ◌-◌, ◌*◌, ◌<◌, ◌≤◌, Bool, true, false, cond, leb, List, [], ◌∷◌, ◌++◌, map, length, take, drop, sym, refl, ap, ◌∙◌, subst, ap₂, arith, length-drop, length-take}
+use Rattle.std.proofs.Common.{◌≡◌, ℕ, suc, ◌+◌, ◌-◌, ◌<◌, ◌≤◌, List, [], ◌∷◌, length, take, drop, refl, ap, ◌∙◌, ap₂, arith, length-drop, length-take}
 use Rattle.std.proofs.lemmas.Bool.{le-leb, lt-leb, cond-true, cond-false}
-use Rattle.index.specs.declared.kind.Kind.{Kind}
-use Rattle.index.specs.declared.kind.Kind.TheVariants.{Total, Mark, Middle, Start, Last, Entire, Skip}
-use Rattle.index.specs.Entries.{Entry, Group, used}
-use Rattle.laying.specs.Lay.{Recording, free, entry, part, put, stored, complete, room, lay_rest, lay_parts, lay_begun, lay_record}
-use Rattle.index.specs.Bytes.{entry_bytes}
-use Rattle.laying.specs.Calls.{made, closed}
-use Rattle.laying.specs.Settled.{KindCount, kind_count, outline, Alone, Settled}
+use Rattle.index.specs.declared.kind.Kind.TheVariants.{Total, Middle, Start, Last, Entire, Skip}
+use Rattle.index.specs.Entries.{used}
+use Rattle.laying.specs.Lay.{Recording, free, entry, part, put, complete, lay_rest, lay_record}
+use Rattle.laying.specs.Calls.{made}
+use Rattle.laying.specs.Settled.{outline, Alone, Settled}
 
 -- ---- the ways of a rest
 

@@ -1,10 +1,9 @@
 -- The bound on the groups that a rest may take does not matter; and the open group is stored as it is completed.
-use Rattle.std.proofs.Common.{◌≡◌, ℕ, zero, suc, ◌+◌, ◌-◌, ◌*◌, ◌<◌, ◌≤◌, Bool, true, false, cond, leb, List, [], ◌∷◌, ◌++◌, length, take, drop, sym, refl, ap, ◌∙◌, arith, length-drop}
+use Rattle.std.proofs.Common.{◌≡◌, zero, suc, ◌+◌, ◌-◌, Bool, true, false, cond, leb, [], length, take, drop, refl, arith, length-drop}
 use Rattle.std.proofs.lemmas.Bool.{leb-false}
-use Rattle.index.specs.declared.kind.Kind.{Kind}
 use Rattle.index.specs.declared.kind.Kind.TheVariants.{Total, Middle, Last}
-use Rattle.index.specs.Entries.{Entry, Group, used}
-use Rattle.laying.specs.Lay.{Recording, free, entry, part, put, stored, complete, lay_rest, BoundFree, StoresOpen}
+use Rattle.index.specs.Entries.{used}
+use Rattle.laying.specs.Lay.{Recording, free, entry, part, put, complete, lay_rest, BoundFree, StoresOpen}
 
 -- a completed group leaves a new one
 pub new-free : (s : Recording) → free (complete s) ≡ 126596

@@ -1,10 +1,9 @@
 -- What a recording lays, as steps: an entry put, a group completed, a warning.
-use Rattle.std.proofs.Common.{◌≡◌, ℕ, zero, suc, ◌+◌, ◌-◌, ◌*◌, ◌<◌, ◌≤◌, Bool, true, false, cond, ◌&&◌, eqb, List, [], ◌∷◌, ◌++◌, length, sym, refl, ap, ◌∙◌, subst, add-zero, arith}
+use Rattle.std.proofs.Common.{◌≡◌, ℕ, suc, ◌+◌, ◌-◌, ◌*◌, ◌<◌, ◌≤◌, true, ◌&&◌, eqb, List, [], ◌∷◌, ◌++◌, length, sym, refl, ap, ◌∙◌, add-zero, arith}
 use Rattle.std.proofs.lemmas.List.{append-nil, append_assoc}
 use Rattle.std.specs.List.{AllByRecursion}
-use Rattle.index.specs.declared.kind.Kind.{Kind}
-use Rattle.index.specs.declared.kind.Kind.TheVariants.{Total, Mark, Middle, Start, Last, Entire, Skip, Unknown}
-use Rattle.index.specs.Entries.{Entry, Item, Group, used, finishes, marks, Numbered}
+use Rattle.index.specs.declared.kind.Kind.TheVariants.{Skip}
+use Rattle.index.specs.Entries.{Entry, Item, Group, used, marks, Numbered}
 use Rattle.index.specs.Walk.{Position, Position.idle, walk, walk_groups, closes, skipped, after, gives, of_kind}
 use Rattle.index.proofs.Growing.{finishes-few, cond-few}
 use Rattle.laying.specs.Lay.{Recording, current, entry, put, stored, complete}

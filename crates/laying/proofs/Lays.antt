@@ -1,14 +1,13 @@
 -- Putting an entry and completing a group keep what a walk gives.
-use Rattle.std.proofs.Common.{◌≡◌, ℕ, zero, suc, ◌+◌, ◌-◌, ◌*◌, ◌<◌, ◌≤◌, Bool, true, false, cond, ◌&&◌, eqb, ltb, leb, List, [], ◌∷◌, ◌++◌, length, Ok, Err, Result, sym, refl, ap, ◌∙◌, subst, add-zero, zero-add, arith, length-append}
+use Rattle.std.proofs.Common.{◌≡◌, ℕ, suc, ◌+◌, ◌-◌, ◌*◌, ◌<◌, ◌≤◌, true, false, cond, ◌&&◌, eqb, List, [], ◌∷◌, ◌++◌, length, Ok, Result, sym, refl, ap, ◌∙◌, arith}
 use Rattle.std.proofs.lemmas.Bool.{eq-eqb, lt-ltb, le-leb, cond-true, cond-false, and_from}
-use Rattle.index.specs.declared.kind.Kind.{Kind}
 use Rattle.index.specs.declared.kind.Kind.TheVariants.{Skip}
-use Rattle.index.specs.Entries.{Entry, Item, Group, used, finishes, marks}
+use Rattle.index.specs.Entries.{Entry, Item, used, finishes, marks}
 use Rattle.index.specs.declared.fault.IndexFault.{IndexFault}
-use Rattle.index.specs.Succession.{known, skips}
-use Rattle.index.specs.Walk.{Position, Position.idle, Walk, Between, allowed, closes, skipped, counts, after, gives, next, step, close, walk, whole, none, of_kind, summed, state_of, left_open, walk_group, walk_groups}
-use Rattle.laying.specs.Lay.{Recording, current, free, entry, part, put, stored, complete}
-use Rattle.index.proofs.Walks.{used-snoc, length-snoc, of_kind-snoc, walk-snoc, whole-snoc, groups-snoc, step_ok}
+use Rattle.index.specs.Succession.{known}
+use Rattle.index.specs.Walk.{Position, Position.idle, Walk, Between, allowed, closes, skipped, counts, after, gives, next, walk, of_kind, summed, state_of, left_open, walk_group, walk_groups}
+use Rattle.laying.specs.Lay.{Recording, current, entry, put, stored, complete}
+use Rattle.index.proofs.Walks.{used-snoc, length-snoc, walk-snoc, whole-snoc, groups-snoc, step_ok}
 
 -- walking what is laid gives the items l and stands at st
 pub record Inv (s : Recording) (st : Position) (l : List Item) : Type 0 where

@@ -1,11 +1,11 @@
 -- Marks and records, laid and walked.
-use Rattle.std.proofs.Common.{◌≡◌, ℕ, zero, suc, ◌+◌, ◌-◌, ◌*◌, ◌/◌, ◌<◌, ◌≤◌, Bool, true, false, cond, ◌&&◌, eqb, ltb, leb, List, [], ◌∷◌, ◌++◌, length, take, drop, sym, refl, ap, ◌∙◌, subst, ap₂, subst₂, add-zero, zero-add, arith, length-append, length-drop, length-take}
+use Rattle.std.proofs.Common.{◌≡◌, ℕ, zero, suc, ◌+◌, ◌-◌, ◌*◌, ◌/◌, ◌<◌, ◌≤◌, Bool, true, false, cond, eqb, leb, List, [], ◌∷◌, ◌++◌, length, take, drop, sym, refl, ap, ◌∙◌, subst, ap₂, subst₂, add-zero, arith, length-drop, length-take}
 use Rattle.std.proofs.lemmas.List.{append-nil, append_assoc, take-append-drop}
 use Rattle.std.proofs.lemmas.Bool.{eq-eqb, lt-ltb, le-leb, cond-true, cond-false, and_from, leb-true, leb-false, cond_both}
 use Rattle.index.specs.declared.kind.Kind.{Kind}
-use Rattle.index.specs.declared.kind.Kind.TheVariants.{Total, Mark, Middle, Start, Last, Entire, Skip}
-use Rattle.index.specs.Entries.{Entry, Item, Group, used, finishes, marks}
-use Rattle.index.specs.Walk.{Position, Position.idle, Position.begun, Position.inside, Position.owing, Position.owed, counts, after, gives, of_kind, skipped}
+use Rattle.index.specs.declared.kind.Kind.TheVariants.{Total, Mark, Middle, Start, Last, Entire}
+use Rattle.index.specs.Entries.{Entry, Item, used, finishes}
+use Rattle.index.specs.Walk.{Position, Position.idle, Position.begun, Position.inside, Position.owing, Position.owed, after, gives, of_kind}
 use Rattle.laying.specs.Lay.{Recording, current, free, entry, part, put, stored, complete, room, lay_mark, Finishes, lay_rest, lay_parts, lay_begun, lay_record, rest_ends, begun_ends, record_ends, mark_ends}
 use Rattle.index.proofs.Walks.{used-snoc, length-snoc, of_kind-snoc}
 use Rattle.index.specs.Bytes.{Sound, Small, named, kind_of, flag_of}

@@ -1,11 +1,11 @@
 -- Any calls keep what a walk gives.
-use Rattle.std.proofs.Common.{◌≡◌, ℕ, zero, suc, ◌+◌, ◌-◌, ◌*◌, ◌<◌, ◌≤◌, Bool, true, false, cond, ◌&&◌, ◌||◌, eqb, ltb, leb, ◌⊎◌, List, [], ◌∷◌, ◌++◌, map, length, sym, refl, ap, ◌∙◌, subst, ap₂, inl, inr, arith}
-use Rattle.std.proofs.lemmas.Bool.{eqb-true, eqb-false, ltb-true, ltb-false, and_parts, or_cases, or_parts, cond_both}
-use Rattle.index.specs.Entries.{Item, Group, used}
-use Rattle.index.specs.Walk.{Position, Position.idle, walk, walk_groups, of_kind}
+use Rattle.std.proofs.Common.{◌≡◌, ℕ, ◌<◌, ◌≤◌, Bool, true, false, cond, ◌&&◌, ◌||◌, eqb, ltb, ◌⊎◌, List, [], ◌∷◌, ◌++◌, map, length, refl, ◌∙◌, subst, ap₂, inl, inr, arith}
+use Rattle.std.proofs.lemmas.Bool.{eqb-true, eqb-false, ltb-false, and_parts, or_cases, or_parts, cond_both}
+use Rattle.index.specs.Entries.{Item, Group}
+use Rattle.index.specs.Walk.{Position.idle}
 use Rattle.laying.specs.Lay.{Recording, current, stored, record_ends, mark_ends, lay_record, lay_mark}
-use Rattle.laying.specs.Calls.{Call, Call.record', Call.mark', Call.warn', Listed, Sends, Running, Holds, Faithful, made, nothing, declines, carried, warning, listed, called, ran, begin, closed, groups_of, Closes, Recorded, Predicted}
-use Rattle.laying.proofs.Lays.{Inv, stored-walks}
+use Rattle.laying.specs.Calls.{Call, Call.record', Call.mark', Call.warn', Sends, Running, Faithful, declines, carried, listed, called, ran, begin, closed, Closes, Recorded, Predicted}
+use Rattle.laying.proofs.Lays.{stored-walks}
 use Rattle.laying.proofs.Laid.{Laid, Laid.fresh, Laid.warns, laid-inv, Grown, same-grown, laid-whole, laid_on, stored-whole, all_snoc}
 use Rattle.index.proofs.Walks.{groups-snoc, length-snoc}
 use Rattle.index.proofs.Reread.{reread}

@@ -1,10 +1,10 @@
 -- Calls on an open recording, and the list that follows from those carried out.
-use Rattle.std.specs.Prelude.{◌≡◌, ℕ, zero, suc, ◌+◌, ◌-◌, ◌*◌, ◌≤◌, Bool, true, false, cond, ◌&&◌, ◌||◌, List, [], ◌∷◌, ◌++◌, map, length, Ok, Err, Result, ◌==◌, nat_lt}
-use Rattle.index.specs.Entries.{Item, Entry, Group, used}
-use Rattle.index.specs.Walk.{Position, Position.idle, Walk, Between, walk, walk_groups, of_kind}
+use Rattle.std.specs.Prelude.{◌≡◌, ℕ, ◌+◌, ◌-◌, ◌*◌, ◌≤◌, cond, ◌&&◌, ◌||◌, List, [], ◌∷◌, ◌++◌, map, length, Ok, ◌==◌, nat_lt}
+use Rattle.index.specs.Entries.{Item, Group, used}
+use Rattle.index.specs.Walk.{Position.idle, Between, walk, walk_groups, of_kind}
 use Rattle.std.specs.List.{AllByRecursion}
 use Rattle.laying.specs.Lay.{Recording, lay_mark, lay_record, record_ends, mark_ends, current, stored, Finishes}
-use Rattle.index.specs.Bytes.{Whole, Small, group_of, read_group}
+use Rattle.index.specs.Bytes.{Small, group_of, read_group}
 
 pub data Call : Type 0 where
   record' : List ℕ → Call

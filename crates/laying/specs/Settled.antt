@@ -1,7 +1,7 @@
 -- What a recording with one record, or none, is when it is closed.
 use Rattle.std.specs.Prelude.{◌≡◌, ℕ, List, [], ◌∷◌, map, length}
 use Rattle.index.specs.declared.kind.Kind.{Kind}
-use Rattle.index.specs.declared.kind.Kind.TheVariants.{Total, Mark, Middle, Start, Last, Entire, Skip}
+use Rattle.index.specs.declared.kind.Kind.TheVariants.{Total, Middle, Start, Last, Entire, Skip}
 use Rattle.index.specs.Entries.{Entry, Group}
 use Rattle.laying.specs.Lay.{Recording, lay_record, entry}
 use Rattle.index.specs.Bytes.{entry_bytes}

@@ -1,5 +1,5 @@
 -- The place of a byte of a G3 word as the placing function answers it.
-use Rattle.std.specs.Prelude.{ℕ, zero, suc, cond, Some, None, Option, ◌==◌, nat_lt}
+use Rattle.std.specs.Prelude.{ℕ, cond, Some, None, Option, ◌==◌, nat_lt}
 use Rattle.layout.specs.declared.sign.Sign.{Sign}
 use Rattle.layout.specs.declared.sign.Sign.TheVariants.{Plus, Minus}
 use Rattle.layout.specs.declared.sign.Channel.{Channel}

@@ -1,9 +1,9 @@
 -- One more group: walked, and given if there is room.
-use Rattle.std.proofs.Common.{◌≡◌, ℕ, ◌+◌, ◌<◌, ◌≤◌, Bool, true, false, cond, eqb, leb, List, [], ◌∷◌, length, get_or, Ok, Err, Result, sym, refl, ap, ◌∙◌, subst, ap₂, arith}
+use Rattle.std.proofs.Common.{◌≡◌, ℕ, ◌+◌, ◌≤◌, Bool, true, false, cond, eqb, leb, List, length, get_or, Ok, Err, Result, sym, refl, ap, ◌∙◌, subst, ap₂, arith}
 use Rattle.std.proofs.lemmas.Bool.{leb-true}
 use Rattle.index.specs.declared.fault.IndexFault.{IndexFault}
 use Rattle.index.specs.declared.fault.GroupFault.{GroupFault}
-use Rattle.index.specs.declared.fault.GroupFault.TheVariants.{WrongLength, Index as IndexOf}
+use Rattle.index.specs.declared.fault.GroupFault.TheVariants.{WrongLength}
 use Rattle.index.specs.declared.succession.State.{State}
 use Rattle.index.specs.declared.tally.Counts.{Counts}
 use Rattle.index.specs.declared.walk.Walk.{Walk}
@@ -18,7 +18,7 @@ use Rattle.playing.specs.declared.fault.GroupCause.{GroupCause}
 use Rattle.playing.specs.declared.fault.GroupCause.TheVariants.{Absent, Index, Output, Rows}
 use Rattle.playing.specs.declared.rows.Row.{Row}
 use Rattle.playing.specs.Play.{given}
-use Rattle.player.specs.Shelves.{Shelf, laid_all, Fits, size_in, finished_in, room_for, after_all, Roomy}
+use Rattle.player.specs.Shelves.{Shelf, laid_all, size_in, finished_in, room_for, after_all, Roomy}
 use Rattle.player.specs.Standing.{Holds, Stands, cause_in, Fitted, Went}
 use Rattle.player.proofs.Shelving.{Added, Goes, group-goes, output-long, table-long}
 

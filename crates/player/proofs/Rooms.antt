@@ -1,5 +1,5 @@
 -- Whether there is room for a group.
-use Rattle.std.proofs.Common.{◌≡◌, ℕ, ◌+◌, ◌<◌, ◌≤◌, Bool, true, false, cond, leb, List, [], ◌∷◌, length, Ok, Err, Result, sym, refl, ap, ◌∙◌, subst, arith}
+use Rattle.std.proofs.Common.{◌≡◌, ℕ, ◌+◌, ◌<◌, ◌≤◌, Bool, true, false, cond, leb, List, length, Ok, Err, Result, sym, refl, ap, ◌∙◌, subst, arith}
 use Rattle.std.proofs.lemmas.Bool.{leb-true, leb-false}
 use Rattle.playing.specs.declared.fault.GroupCause.{GroupCause}
 use Rattle.playing.specs.declared.fault.GroupCause.TheVariants.{Output, Rows}
@@ -7,7 +7,7 @@ use Rattle.index.specs.Entries.{Entry}
 use Rattle.index.specs.Bytes.{number, read_group}
 use Rattle.index.specs.Cursors.{Cursor, Sound, started, remaining}
 use Rattle.index.proofs.Grouping.{reads-group}
-use Rattle.player.specs.Shelves.{Shelf, laid_all, Fits, size_in, finished_in, room_for, after_all, Roomy}
+use Rattle.player.specs.Shelves.{Shelf, laid_all, size_in, finished_in, room_for, after_all}
 
 abbrev Answer : Type 0
 Answer = Result (Unit {0}) GroupCause

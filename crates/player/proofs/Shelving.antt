@@ -1,6 +1,6 @@
 -- Entries given one by one give what a walk over them gives.
-use Rattle.std.proofs.Common.{◌≡◌, ℕ, zero, suc, ◌+◌, ◌-◌, ◌*◌, ◌<◌, ◌≤◌, Bool, true, false, cond, ◌&&◌, eqb, ltb, leb, List, [], ◌∷◌, ◌++◌, length, get_or, take, drop, set, Ok, Err, Result, sym, refl, ap, ◌∙◌, subst, ap₂, add-zero, zero-add, arith, length-append, length-drop}
-use Rattle.std.proofs.lemmas.List.{append-nil, append_assoc, drop_more}
+use Rattle.std.proofs.Common.{◌≡◌, ℕ, zero, suc, ◌+◌, ◌-◌, ◌*◌, ◌<◌, ◌≤◌, Bool, true, false, cond, ◌&&◌, eqb, ltb, leb, List, [], ◌∷◌, ◌++◌, length, drop, set, Ok, Err, Result, sym, refl, ap, ◌∙◌, subst, ap₂, add-zero, zero-add, arith, length-append, length-drop}
+use Rattle.std.proofs.lemmas.List.{append-nil, append_assoc}
 use Rattle.std.proofs.lemmas.Bool.{ltb-true, leb-true, and_parts}
 use Rattle.index.specs.declared.kind.Kind.{Kind}
 use Rattle.index.specs.declared.kind.Kind.TheVariants.{Total, Mark, Middle, Start, Last, Entire, Skip, Unknown}
@@ -10,7 +10,7 @@ use Rattle.index.specs.declared.fault.IndexFault.{IndexFault}
 use Rattle.index.specs.declared.fault.IndexFault.TheVariants.{GroupNumber, EntryCount, LastByte, TableZeros, Totals, OpenRecord}
 use Rattle.index.specs.Entries.{Entry, Item, Group, finishes}
 use Rattle.index.specs.Bytes.{named}
-use Rattle.index.specs.Succession.{known, begins, continues, totals, skips, ends, parts_sum, count_fits}
+use Rattle.index.specs.Succession.{known, begins, continues, totals, skips, ends, count_fits}
 use Rattle.index.specs.Walk.{Position, Position.idle, Position.begun, Position.inside, Position.owing, Position.owed, Between, state_of, allowed, closes, skipped, counts, from_idle, from_inside, after, idle_gives, gives, Walk, next, step, close, whole, none, of_kind, opening, left_open, summed, walk_group}
 use Rattle.index.specs.Writing.{replaced}
 use Rattle.index.proofs.Replacing.{replaced-none, replaced-then}

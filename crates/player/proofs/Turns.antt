@@ -1,12 +1,12 @@
 -- One turn over the entries that a reader has left.
-use Rattle.std.proofs.Common.{◌≡◌, ℕ, suc, ◌+◌, ◌-◌, ◌<◌, ◌≤◌, Bool, true, false, cond, List, [], ◌∷◌, length, sym, refl, ap, ◌∙◌, subst, ap₂, arith}
+use Rattle.std.proofs.Common.{◌≡◌, ◌+◌, ◌≤◌, Bool, true, false, cond, [], ◌∷◌, length, sym, ap, ◌∙◌, subst, ap₂, arith}
 use Rattle.std.proofs.lemmas.Bool.{cond-true}
 use Rattle.index.specs.Entries.{Entry, finishes}
 use Rattle.index.specs.Bytes.{named}
 use Rattle.index.specs.declared.kind.Kind.{Kind}
 use Rattle.index.specs.declared.kind.Kind.TheVariants.{Total, Mark, Middle, Start, Last, Entire, Skip, Unknown}
 use Rattle.index.specs.Cursors.{Cursor, Sound, ahead, coming, advanced, remaining}
-use Rattle.index.proofs.Coming.{coming-bytes, left-some, remaining-more, remaining-none, sound-advanced}
+use Rattle.index.proofs.Coming.{left-some, remaining-more, remaining-none, sound-advanced}
 use Rattle.player.specs.Shelves.{Shelf, part, laid, laid_all, FitsOne, Fits, size_in, finished_in}
 
 part-few : (p : Entry) → length (part p) ≤ length p.bytes

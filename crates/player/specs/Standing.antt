@@ -1,5 +1,5 @@
 -- What was given of a walk, and what one more group does to it.
-use Rattle.std.specs.Prelude.{◌≡◌, ℕ, ◌+◌, ◌≤◌, Bool, true, false, cond, leb, List, [], ◌∷◌, ◌++◌, length, drop, Ok, Err, Result, nat_le, slice_index_or}
+use Rattle.std.specs.Prelude.{◌≡◌, ℕ, ◌+◌, ◌≤◌, true, false, leb, List, ◌++◌, length, drop, Ok, Err, Result, nat_le, slice_index_or}
 use Rattle.index.specs.declared.fault.IndexFault.{IndexFault}
 use Rattle.index.specs.declared.fault.GroupFault.{GroupFault}
 use Rattle.index.specs.declared.fault.GroupFault.TheVariants.{WrongLength, Index as IndexOf}

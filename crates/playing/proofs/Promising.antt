@@ -2,7 +2,6 @@
 use Rattle.std.proofs.Common.{◌≡◌, ℕ, suc, ◌+◌, ◌-◌, ◌≤◌, Bool, ◌⊎◌, List, [], ◌∷◌, ◌++◌, length, take, drop, None, sym, refl, ap, ◌∙◌, subst, inl, inr, arith}
 use lib.Seq.{take-append_seam}
 use Rattle.std.proofs.lemmas.List.{append-nil}
-use Rattle.tape.specs.Tape.{Track}
 use Rattle.layout.specs.Counts.{count}
 use Rattle.losses.specs.declared.fault.ReadFault.TheVariants.{Unchecked}
 use Rattle.index.specs.Entries.{Item}

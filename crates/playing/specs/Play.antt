@@ -1,5 +1,5 @@
 -- Playing a tape, group by group.
-use Rattle.std.specs.Prelude.{◌≡◌, ℕ, zero, suc, ◌+◌, ◌-◌, ◌/◌, min, Bool, true, false, cond, List, [], ◌∷◌, ◌++◌, length, drop, replicate, Some, None, Ok, Err, Option, Result, ◌==◌, nat_le, slice_index_or}
+use Rattle.std.specs.Prelude.{ℕ, zero, suc, ◌+◌, ◌-◌, ◌/◌, min, cond, List, [], ◌∷◌, ◌++◌, length, drop, replicate, Some, None, Ok, Err, Option, Result, ◌==◌, nat_le, slice_index_or}
 use Rattle.std.specs.List.{flat_map}
 use Rattle.tape.specs.Tape.{Track}
 use Rattle.layout.specs.Line.{Code}
@@ -10,9 +10,9 @@ use Rattle.losses.specs.declared.fault.ReadFault.{ReadFault}
 use Rattle.losses.specs.declared.fault.ReadFault.TheVariants.{TrackBuffer as NoBuffer, Setting as NoSetting, GroupBuffer as NoGroupBuffer, Bench as NoBench, NoGroup, ThirdLoss, Unchecked}
 use Rattle.losses.specs.Losses.{no_loss}
 use Rattle.losses.specs.Faults.{size_decline}
-use Rattle.reading.specs.Groups.{found, findings, answer_of}
+use Rattle.reading.specs.Groups.{found, findings}
 use Rattle.index.specs.declared.fault.IndexFault.{IndexFault}
-use Rattle.index.specs.Entries.{Item, Group as GroupIn}
+use Rattle.index.specs.Entries.{Item}
 use Rattle.index.specs.Bytes.{read_group}
 use Rattle.index.specs.Walk.{Position, Position.idle, Position.begun, Position.inside, Position.owing, Position.owed, Between, walk_group, beginning}
 use Rattle.playing.specs.declared.fault.GroupCause.{GroupCause}

@@ -1,5 +1,5 @@
 -- What playing promises of every recording.
-use Rattle.std.specs.Prelude.{◌≡◌, ℕ, ◌+◌, ◌-◌, ◌*◌, ◌<◌, ◌≤◌, Bool, true, false, ◌⊎◌, List, [], length, take, Some, None, Option, slice_index, slice_index_or}
+use Rattle.std.specs.Prelude.{◌≡◌, ℕ, ◌+◌, ◌-◌, ◌*◌, ◌<◌, ◌≤◌, Bool, true, false, ◌⊎◌, List, length, take, Some, None, slice_index, slice_index_or}
 use Rattle.tape.specs.Tape.{Track}
 use Rattle.layout.specs.Counts.{count}
 use Rattle.layout.specs.Damage.{Light}

@@ -1,5 +1,5 @@
 -- Causes and their numbers, and the finding on a track.
-use Rattle.std.proofs.Common.{◌≡◌, ℕ, Bool, true, false, cond, List, sym, refl, ap, ◌∙◌, subst, arith}
+use Rattle.std.proofs.Common.{◌≡◌, ℕ, true, false, List, sym, refl, ap, subst, arith}
 use Rattle.std.proofs.lemmas.Bool.{cond-true, true≢false, false≢true}
 use Rattle.layout.specs.Reading.{Outcome, read, lost}
 use Rattle.layout.specs.Words.{row}
@@ -7,7 +7,7 @@ use Rattle.losses.specs.declared.sheet.Cause.{Cause}
 use Rattle.losses.specs.declared.sheet.Cause.TheVariants.{Read, Blank, TooManyLost, NoFilling, WrongHeader}
 use Rattle.losses.specs.declared.sheet.LossRow.{LossRow}
 use Rattle.reading.specs.Arrays.{array_in}
-use Rattle.losses.specs.Losses.{cause_number, cause_from, is_loss, no_loss, loss_row, row_after}
+use Rattle.losses.specs.Losses.{cause_number, cause_from, is_loss, no_loss}
 use Rattle.reading.specs.Outcomes.{Judged}
 
 pub loss-number : (x : Cause) → true ≡ is_loss x → cause_number x ≡ 0 → ⊥

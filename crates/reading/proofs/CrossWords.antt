@@ -1,10 +1,9 @@
 -- C3 words filled one after another.
-use Rattle.std.proofs.Common.{◌≡◌, ℕ, ◌+◌, ◌-◌, ◌*◌, ◌/◌, ◌%◌, ◌<◌, ◌≤◌, Bool, true, false, not, ◌&&◌, ◌≢◌, List, get_or, Some, None, Option, sym, refl, ap, ◌∙◌, subst, ap₂, inl, inr, arith}
-use Rattle.std.proofs.lemmas.Bool.{cases_Bool, cases_eq, both_ways, and_from, and_left, and_right, true≢false, false≢true}
+use Rattle.std.proofs.Common.{◌≡◌, ℕ, ◌+◌, ◌*◌, ◌/◌, ◌%◌, ◌<◌, ◌≤◌, Bool, true, false, not, ◌&&◌, ◌≢◌, List, get_or, Some, None, sym, refl, ap, ◌∙◌, subst, ap₂, inl, inr, arith}
+use Rattle.std.proofs.lemmas.Bool.{cases_Bool, cases_eq, both_ways, and_left, false≢true}
 use Rattle.reed_solomon.specs.Interleaves.{interleaved}
-use Rattle.layout.specs.Counts.{listed}
 use Rattle.layout.specs.Placing.{number_at, is_data}
-use Rattle.layout.specs.Group.{first_from, is_none}
+use Rattle.layout.specs.Group.{is_none}
 use Rattle.layout.specs.Reading.{filling, byte_at}
 use Rattle.layout.proofs.Counts.{listed_same}
 use Rattle.reading.specs.Arrays.{Recovered}

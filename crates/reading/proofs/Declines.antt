@@ -1,5 +1,5 @@
 -- Calls that are declined by their sizes.
-use Rattle.std.proofs.Common.{◌≡◌, ℕ, Some, None, Ok, Err, Option, Result, sym, refl, ap, arith}
+use Rattle.std.proofs.Common.{◌≡◌, ℕ, Some, None, Err, Option, Result, sym, ap, arith}
 use Rattle.losses.specs.declared.fault.ReadFault.{ReadFault}
 use Rattle.losses.specs.Faults.{answered, unless, declined_or, group_decline}
 

@@ -1,15 +1,15 @@
 -- C2 words filled one after another.
-use Rattle.std.proofs.Common.{◌≡◌, ℕ, zero, suc, ◌+◌, ◌-◌, ◌*◌, ◌/◌, ◌%◌, ◌<◌, ◌≤◌, Bool, true, false, cond, not, ◌&&◌, ◌||◌, eqb, ltb, leb, ◌⊎◌, List, [], ◌∷◌, ◌++◌, map, length, get_or, Option, sym, refl, ap, ◌∙◌, subst, ap₂, subst₂, inl, inr, arith}
+use Rattle.std.proofs.Common.{◌≡◌, ℕ, zero, suc, ◌+◌, ◌-◌, ◌*◌, ◌/◌, ◌%◌, ◌<◌, ◌≤◌, Bool, true, false, cond, ◌&&◌, ◌||◌, eqb, ltb, leb, List, [], ◌∷◌, ◌++◌, map, length, sym, refl, ap, ◌∙◌, subst, ap₂, inl, inr, arith}
 use Rattle.std.specs.List.{range_with_len, AllByRecursion}
-use Rattle.std.proofs.lemmas.Bool.{cond-true, cond-false, cond_both, eqb-true, eqb-false, eq-eqb, ne_eqb, lt-ltb, le-ltb, ltb-true, ltb-false, cases_Bool, and_parts, and_from, and_left, and_right, or_from, or_left, or_right, cases_lt, cases_eq}
-use Rattle.layout.specs.Counts.{listed, which}
+use Rattle.std.proofs.lemmas.Bool.{cond-true, cond-false, cond_both, eqb-true, eqb-false, eq-eqb, ne_eqb, lt-ltb, le-ltb, and_from, and_left, and_right, or_from, or_left, or_right, cases_lt, cases_eq}
+use Rattle.layout.specs.Counts.{which}
 use Rattle.layout.specs.Placing.{block_at, serial_at}
 use Rattle.layout.specs.Words.{Array, c2, wide, row, frame_byte}
-use Rattle.layout.specs.Reading.{filled, filling, erasures, cause, cause_of, corrected, byte_at, judged, order, words_from, Outcome, read, lost}
+use Rattle.layout.specs.Reading.{filled, filling, erasures, cause, cause_of, corrected, byte_at, judged, order, words_from, read, lost}
 use Rattle.layout.proofs.Counts.{listed_same}
 use Rattle.layout.proofs.Placing.{fits}
 use Rattle.layout.proofs.Light.{words-from}
-use Rattle.reading.specs.Arrays.{array_in, erased_in, before, words_on, Left, Found}
+use Rattle.reading.specs.Arrays.{array_in, before, words_on, Left, Found}
 
 pub small : (m n : ℕ) → n < wide m → n < 32
 small m n h = cond_both (eqb (m % 2) 0) 32 24 (λ z. n < z → n < 32) (λ e l. omega arith) (λ e l. omega arith) h

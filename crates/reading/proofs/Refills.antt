@@ -1,10 +1,10 @@
 -- Words that are filled where they lie.
-use Rattle.std.proofs.Common.{◌≡◌, ℕ, ◌+◌, ◌*◌, ◌/◌, ◌%◌, ◌<◌, ◌≤◌, Bool, true, false, cond, not, ◌&&◌, eqb, leb, ◌≢◌, List, [], ◌∷◌, length, get_or, Some, None, Decides, MatchBool, Option, sym, refl, ap, ◌∙◌, subst, ap₂, arith}
-use Rattle.std.proofs.lemmas.Bool.{cond-true, cond-false, le-leb, lt-leb, eqb-true, eqb-false, eq-eqb, and_from, false≢true}
+use Rattle.std.proofs.Common.{◌≡◌, ℕ, ◌+◌, ◌*◌, ◌/◌, ◌%◌, ◌<◌, ◌≤◌, Bool, true, false, cond, not, ◌&&◌, eqb, leb, List, [], ◌∷◌, length, get_or, Some, None, Decides, MatchBool, Option, sym, refl, ap, ◌∙◌, subst, ap₂, arith}
+use Rattle.std.proofs.lemmas.Bool.{cond-true, cond-false, le-leb, lt-leb, eqb-true, eqb-false, false≢true}
 use Rattle.std.proofs.lemmas.Bool.Decides.{same_from_decides}
 use Rattle.reed_solomon.specs.Words.{Bytes, Places, Checks}
 use Rattle.reed_solomon.specs.Interleaves.{interleaved, Refilled, Unfilled}
-use Rattle.layout.specs.Counts.{which, listed}
+use Rattle.layout.specs.Counts.{which}
 use Rattle.layout.specs.Words.{c2}
 use Rattle.layout.specs.Group.{is_none}
 use Rattle.layout.specs.Reading.{filling, filled, erasures, byte_at, checks, cause, cause_of, corrected}

@@ -1,17 +1,17 @@
 -- What holds of every reading.
-use Rattle.std.proofs.Common.{◌≡◌, ℕ, ◌+◌, ◌/◌, ◌%◌, ◌<◌, ◌≤◌, Bool, true, false, cond, ◌&&◌, eqb, leb, ◌⊎◌, List, [], ◌∷◌, length, Some, None, Option, sym, refl, ap, ◌∙◌, subst, inl, inr, arith}
+use Rattle.std.proofs.Common.{◌≡◌, ℕ, ◌<◌, Bool, ◌&&◌, eqb, leb, List, [], ◌∷◌, length, Some, None, Option, refl, ap, inl, inr, arith}
 use Rattle.std.specs.List.{AllByRecursion}
 use Rattle.std.proofs.lemmas.Bool.{cond_both, eqb-false}
 use Rattle.tape.specs.Tape.{Track}
 use Rattle.layout.specs.Words.{Array, wide, row, frame_byte}
-use Rattle.layout.specs.Line.{Code, Address, Valid}
-use Rattle.layout.specs.Reading.{Outcome, read, lost, reading, judged, order, erased, value, erasures, filled, corrected, cause, cause_of}
-use Rattle.layout.specs.Group.{address, outcome, whole, unchecked}
+use Rattle.layout.specs.Line.{Code, Address}
+use Rattle.layout.specs.Reading.{read, lost, reading, judged, order, erased, value, erasures, filled, corrected, cause, cause_of}
+use Rattle.layout.specs.Group.{address, outcome}
 use Rattle.layout.proofs.Light.{words-from, light-reads}
 use Rattle.layout.proofs.Group
 use Rattle.reading.specs.Arrays.{at}
 use Rattle.losses.specs.Losses.{cause_number, cause_from, loss_row, row_after}
-use Rattle.reading.specs.Groups.{tracks_of, findings, found, answer_of, group_after}
+use Rattle.reading.specs.Groups.{tracks_of, findings, answer_of, group_after}
 use Rattle.reading.specs.Laws.{outcome_number, RowsFit, TrackKept, GroupKept, GroupUnmixed}
 use Rattle.reading.proofs.InOrder.{small}
 

@@ -1,22 +1,19 @@
 -- What was found in memory is what the tracks read as.
-use Rattle.std.proofs.Common.{◌≡◌, ℕ, zero, suc, ◌+◌, ◌-◌, ◌*◌, ◌/◌, ◌%◌, ◌<◌, ◌≤◌, Bool, true, false, cond, ◌&&◌, eqb, ◌⊎◌, List, [], ◌∷◌, ◌++◌, map, length, get_or, take, drop, set, replicate, Some, None, Ok, Err, Option, sym, refl, ap, ◌∙◌, subst, ap₂, inl, inr, arith, length-drop, length-set, length-take-le, get_or-drop, get_or-set_other, get_or-take, get_or-set_same}
+use Rattle.std.proofs.Common.{◌≡◌, ℕ, zero, suc, ◌+◌, ◌-◌, ◌*◌, ◌/◌, ◌%◌, ◌<◌, ◌≤◌, Bool, true, false, cond, ◌&&◌, eqb, List, [], ◌∷◌, ◌++◌, length, get_or, take, drop, set, replicate, Some, None, Option, sym, refl, ap, ◌∙◌, subst, ap₂, inl, inr, arith, length-set, length-take-le, get_or-drop, get_or-set_other, get_or-take, get_or-set_same}
 use lib.ListN.{length-replicate, get_or-replicate}
 use borrow.Rule.Slice.PartMut.{put_mid}
-use Rattle.std.specs.List.{range_with_len}
 use Rattle.std.proofs.lemmas.List.FromFn.{fill_by_all}
 use Rattle.std.proofs.lemmas.List.{get_or_append_left, get_or-append_right}
-use Rattle.std.proofs.lemmas.Bool.{cases_eq, cases_lt, cond-true, cond-false, lt-ltb, eqb-true, eq-eqb, cond_both}
-use Rattle.reed_solomon.specs.Interleaves.{interleaved}
+use Rattle.std.proofs.lemmas.Bool.{cases_eq, cases_lt, eq-eqb, cond_both}
 use Rattle.layout.specs.Counts.{count, which, listed}
 use Rattle.layout.specs.Randomizer.{randomized}
 use Rattle.layout.specs.Placing.{number_at, is_data}
 use Rattle.layout.specs.Reading.{filling, byte_at, Outcome, read, lost}
-use Rattle.layout.specs.Group.{sign_d, number_d, joined, first_from, is_gone, is_none, numbered, Found, whole, third, unchecked, c3_filled, subgroup, third_lost, first_bad, judged_bytes, judged_tracks, gathered}
+use Rattle.layout.specs.Group.{sign_d, number_d, joined, first_from, is_gone, is_none, numbered, whole, third, unchecked, c3_filled, subgroup, third_lost, first_bad, judged_bytes, judged_tracks, gathered}
 use Rattle.layout.proofs.Counts.{listed_same, length-which}
-use Rattle.losses.specs.declared.sheet.Cause.{Cause}
-use Rattle.losses.specs.declared.sheet.Cause.TheVariants.{Read, Blank, TooManyLost, NoFilling, WrongHeader}
+use Rattle.losses.specs.declared.sheet.Cause.TheVariants.{Blank, TooManyLost, NoFilling, WrongHeader}
 use Rattle.losses.specs.declared.sheet.LossRow.{LossRow}
-use Rattle.losses.specs.Losses.{is_loss, cause_from, no_loss, loss_row, row_after}
+use Rattle.losses.specs.Losses.{is_loss, no_loss, loss_row, row_after}
 use Rattle.reading.specs.Groups.{gone_in, third_in, sheet_of, filling_in, bad_in, place_in, Filled, group_in, Holds, found_bytes, found_tracks, found_in}
 use Rattle.reading.proofs.Marks.{interleaved-is}
 use Rattle.reading.proofs.InOrder.{which-same}

@@ -5,7 +5,7 @@ use Rattle.reed_solomon.specs.Interleaves.{interleaved}
 use Rattle.layout.specs.Placing.{block_at, serial_at}
 use Rattle.layout.specs.Words.{row, frame_byte}
 use Rattle.layout.specs.Line.{Code, Address}
-use Rattle.layout.specs.Reading.{value, erased, c1_read, checks, corrected, judged, order, reading, Outcome, read, lost}
+use Rattle.layout.specs.Reading.{value, erased, c1_read, checks, corrected, judged, order, reading, read, lost}
 use Rattle.layout.proofs.Counts.{listed_same}
 use Rattle.layout.proofs.Placing.{fits}
 use Rattle.layout.proofs.Light.{occupied-wide}

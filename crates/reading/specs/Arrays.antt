@@ -6,7 +6,7 @@ use Rattle.layout.specs.Counts.{every}
 use Rattle.layout.specs.Words.{Array, wide}
 use Rattle.layout.specs.Line.{Code, Address}
 use Rattle.layout.specs.Group.{is_none}
-use Rattle.layout.specs.Reading.{filling, byte_at, byte_lost, value, corrected, cause as cause_in, judged, order, words_from, Outcome, lost}
+use Rattle.layout.specs.Reading.{filling, byte_at, byte_lost, value, corrected, cause as cause_in, judged, order, words_from, lost}
 
 -- the words of a track
 abbrev pub at : List ℕ → ℕ → ℕ

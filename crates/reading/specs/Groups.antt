@@ -1,5 +1,5 @@
 -- The rows of a group's tracks in memory, and what the group's passes leave there.
-use Rattle.std.specs.Prelude.{◌≡◌, ℕ, ◌+◌, ◌-◌, ◌*◌, ◌/◌, ◌%◌, ◌<◌, ◌≤◌, Bool, true, false, cond, not, ◌&&◌, ◌≢◌, List, map, length, get_or, Some, None, Ok, Err, Option, Result, ◌==◌, bit_xor, slice_index, slice_index_or}
+use Rattle.std.specs.Prelude.{◌≡◌, ℕ, ◌+◌, ◌-◌, ◌*◌, ◌/◌, ◌%◌, ◌<◌, ◌≤◌, Bool, true, false, ◌&&◌, ◌≢◌, List, map, length, get_or, Some, None, Ok, Err, Option, Result, ◌==◌, bit_xor, slice_index, slice_index_or}
 use Rattle.std.specs.List.{range_with_len}
 use Rattle.reed_solomon.specs.Interleaves.{interleaved}
 use Rattle.tape.specs.Tape.{Track}

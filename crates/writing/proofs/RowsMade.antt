@@ -1,11 +1,10 @@
 -- The rows on the bench are those of the group's tracks.
-use Rattle.std.proofs.Common.{◌≡◌, ℕ, ◌+◌, ◌-◌, ◌*◌, ◌/◌, ◌%◌, ◌<◌, ◌≤◌, Bool, true, false, cond, eqb, ltb, ◌⊎◌, List, length, get_or, take, drop, sym, refl, ap, ◌∙◌, ap₂, inl, inr, arith, length-drop, length-take}
+use Rattle.std.proofs.Common.{◌≡◌, ℕ, ◌+◌, ◌*◌, ◌/◌, ◌%◌, ◌<◌, ◌≤◌, cond, eqb, ltb, ◌⊎◌, List, length, get_or, drop, sym, ap, ◌∙◌, ap₂, inl, inr, arith, length-drop, length-take}
 use lib.Bits.{bit_xor}
 use Rattle.std.proofs.lemmas.List.{get_or-take, get_or-drop}
 use Rattle.std.proofs.lemmas.Bool.{cond-true, cond-false, lt-ltb, le-ltb, cases_lt}
 use Rattle.reed_solomon.specs.Interleaves.{interleaved}
 use Rattle.layout.specs.Counts.{listed}
-use Rattle.layout.specs.Randomizer.{randomized}
 use Rattle.layout.specs.Words.{frame_byte}
 use Rattle.layout.specs.Reading.{filling, byte_at}
 use Rattle.layout.specs.Group.{part}

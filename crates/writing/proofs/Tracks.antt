@@ -1,9 +1,9 @@
 -- The words of a track: by the array alone, and all of ten bits.
-use Rattle.std.proofs.Common.{◌≡◌, ℕ, zero, suc, ◌+◌, ◌*◌, ◌/◌, ◌%◌, ◌<◌, ◌≤◌, Bool, true, false, cond, eqb, List, [], ◌∷◌, length, get_or, set, Some, None, Ok, sym, refl, ap, ◌∙◌, subst, ap₂, arith, lit<}
+use Rattle.std.proofs.Common.{◌≡◌, ℕ, zero, suc, ◌/◌, ◌%◌, ◌<◌, ◌≤◌, true, cond, eqb, List, [], ◌∷◌, length, get_or, set, Some, sym, refl, subst, ap₂, arith, lit<}
 use Rattle.std.proofs.lemmas.Bool.{cond_both, eq-eqb, lt-ltb}
 use Rattle.channel.specs.declared.state.State.{State}
 use Rattle.channel.specs.declared.state.State.TheVariants.{Zero, One}
-use Rattle.tape.specs.Tape.{Track, narrow, storing, stored}
+use Rattle.tape.specs.Tape.{Track, narrow, stored}
 use Rattle.layout.specs.Words.{Array}
 use Rattle.layout.specs.Line.{Code, Lawful, Address, Valid, content, sync, state, channel, track}
 use Rattle.layout.proofs.Counts.{length-listed, slice_index-listed, listed_same}

@@ -1,5 +1,5 @@
 -- A group on a tape: what writing it answers, and what it leaves.
-use Rattle.std.specs.Prelude.{◌≡◌, ℕ, ◌+◌, ◌-◌, ◌*◌, ◌<◌, Bool, true, false, cond, ◌&&◌, List, map, length, Some, None, Ok, Err, Result, ◌==◌, nat_le, nat_lt, slice_index_or}
+use Rattle.std.specs.Prelude.{ℕ, ◌+◌, ◌-◌, ◌*◌, cond, ◌&&◌, List, map, length, Some, None, Ok, Err, Result, ◌==◌, nat_le, nat_lt, slice_index_or}
 use Rattle.std.specs.List.{range_with_len}
 use Rattle.tape.specs.Tape.{Track}
 use Rattle.layout.specs.Group.{address}

@@ -1,4 +1,4 @@
-use Rattle.std.proofs.Common.{◌≡◌, ℕ, suc, ◌+◌, ◌-◌, ◌≤◌, sym, ◌∙◌, arith}
+use Rattle.std.proofs.Common.{◌≡◌, suc, ◌+◌, ◌-◌, sym, ◌∙◌, arith}
 use Rattle.index.proofs.Reading.{empty-more, empty-not, empty-none}
 use Rattle.index.proofs.table.ends_in_zeros.Goals as goal
 

@@ -1,4 +1,4 @@
-use Rattle.std.proofs.Common.{◌≡◌, ℕ, true, List, [], length, sym, ap, ◌∙◌, rules}
+use Rattle.std.proofs.Common.{◌≡◌, ℕ, true, List, length, sym, ap, ◌∙◌, rules}
 use Rattle.index.specs.Bytes.{entry_bytes}
 use Rattle.index.specs.Entries.{Entry}
 use Rattle.index.specs.Writing.{replaced, fits, entry_place, entry_laid}

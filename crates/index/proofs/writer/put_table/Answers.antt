@@ -1,4 +1,4 @@
-use Rattle.std.proofs.Common.{◌≡◌, ℕ, ◌+◌, List, [], ◌∷◌, ◌++◌, length, refl, arith}
+use Rattle.std.proofs.Common.{ℕ, List, [], ◌∷◌, ◌++◌, refl, arith}
 use Rattle.index.specs.Bytes.{zeros, two, four}
 use Rattle.index.proofs.Reread.{length-zeros}
 use Rattle.index.proofs.Replacing.{replaced-then}

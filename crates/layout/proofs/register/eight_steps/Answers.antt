@@ -1,4 +1,4 @@
-use Rattle.std.proofs.Common.{◌≡◌, sym, refl, ap, ◌∙◌, add-one, arith}
+use Rattle.std.proofs.Common.{sym, refl, ap, ◌∙◌, add-one}
 use Rattle.layout.specs.Randomizer.{step, steps}
 use Rattle.layout.proofs.Outputs.{steps-more}
 use Rattle.layout.proofs.register.eight_steps.Goals as goal

@@ -1,4 +1,4 @@
-use Rattle.std.proofs.Common.{◌≡◌, ℕ, length, sym, ap, ◌∙◌, arith}
+use Rattle.std.proofs.Common.{length, ap, arith}
 use Rattle.index.specs.Contents.{meant}
 use Rattle.index.specs.Cursors.{cursor_of}
 use Rattle.player.proofs.Turns.{turn-sound, turn-left, turn-place, turn-few, turn-size, turn-finished, end-size, end-finished}

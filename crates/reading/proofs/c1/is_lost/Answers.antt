@@ -1,7 +1,6 @@
-use Rattle.std.proofs.Common.{◌≡◌, ◌+◌, ◌*◌, ◌/◌, ◌%◌, not, ◌||◌, sym, ap, ◌∙◌, ap₂, rules}
+use Rattle.std.proofs.Common.{◌+◌, ◌*◌, ◌/◌, ◌%◌, not, ◌||◌, sym, ap₂}
 use Rattle.reed_solomon.specs.Interleaves.{interleaved}
 use Rattle.reading.proofs.Refills.{checks-is}
-use Rattle.layout.specs.Reading.{checks}
 use Rattle.reading.proofs.c1.is_lost.Goals as goal
 
 pub returns : goal.returns

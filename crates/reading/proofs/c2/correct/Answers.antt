@@ -1,7 +1,6 @@
-use Rattle.std.proofs.Common.{◌≡◌, ℕ, ◌+◌, ◌-◌, ◌*◌, ◌<◌, ◌≤◌, sym, refl, ap, ◌∙◌, subst, arith, rules}
-use Rattle.layout.specs.Words.{Array, wide}
-use Rattle.layout.specs.Reading.{words_from}
-use Rattle.reading.specs.Arrays.{erased_in, array_in, Left, Found, words_on}
+use Rattle.std.proofs.Common.{◌≡◌, ◌<◌, sym, refl, subst, arith}
+use Rattle.layout.specs.Words.{Array}
+use Rattle.reading.specs.Arrays.{erased_in, array_in, Found}
 use Rattle.losses.specs.declared.sheet.LossRow.{LossRow}
 use Rattle.losses.specs.Losses.{cause_number}
 use Rattle.reading.proofs.Causes.{loss-number, read_number}

@@ -1,4 +1,4 @@
-use Rattle.std.proofs.Common.{◌≡◌, ℕ, ◌+◌, ◌*◌, ◌<◌, ◌≤◌, drop}
+use Rattle.std.proofs.Common.{◌≡◌, ◌+◌, ◌*◌, ◌≤◌, drop}
 use Rattle.layout.specs.Counts.{which}
 use Rattle.reading.specs.Arrays.{erased_in}
 use Rattle.reading.proofs.c2.erasures.Given as goal

@@ -1,6 +1,6 @@
-use Rattle.std.proofs.Common.{◌≡◌, ℕ, ◌+◌, ◌-◌, ◌*◌, ◌<◌, ◌≤◌, true, false, List, length, take, drop, sym, refl, ap, ◌∙◌, subst, arith, length-drop}
+use Rattle.std.proofs.Common.{◌≡◌, ℕ, ◌+◌, ◌-◌, ◌*◌, ◌≤◌, true, false, List, length, take, drop, sym, ◌∙◌, subst, arith, length-drop}
 use Rattle.std.proofs.lemmas.List.{take_rest}
-use Rattle.reading.specs.Arrays.{erased_in, Corrected, Recovered}
+use Rattle.reading.specs.Arrays.{erased_in}
 use Rattle.reading.proofs.Lists.{which-places}
 use Rattle.reading.proofs.Refills.{cause-many, corrected-is}
 use Rattle.reading.proofs.c2.fill_word.Goals as goal

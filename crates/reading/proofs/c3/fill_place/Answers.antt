@@ -1,7 +1,6 @@
-use Rattle.std.proofs.Common.{◌≡◌, ℕ, ◌/◌, ◌%◌, ◌<◌, arith}
+use Rattle.std.proofs.Common.{◌≡◌, ◌/◌, ◌%◌, ◌<◌, arith}
 use Rattle.layout.specs.Placing.{number_at}
-use Rattle.reading.proofs.Firsts.{some-data, none-data, data-parts}
-use Rattle.reading.proofs.CrossWords.{column-some, column-none}
+use Rattle.reading.proofs.Firsts.{some-data, data-parts}
 use Rattle.reading.proofs.c3.fill_place.Goals as goal
 
 pub recover-requires : goal.recover-requires

@@ -1,4 +1,4 @@
-use Rattle.std.proofs.Common.{◌≡◌, ℕ, ◌+◌, ◌≤◌, drop}
+use Rattle.std.proofs.Common.{◌≡◌, ◌+◌, ◌≤◌, drop}
 use Rattle.layout.specs.Counts.{which}
 use Rattle.reading.specs.Groups.{gone_in}
 use Rattle.reading.proofs.c3.lost_tracks.Given as goal

@@ -1,4 +1,4 @@
-use Rattle.std.proofs.Common.{◌≡◌, ℕ, ◌+◌, ◌≤◌, Bool, cond, ◌&&◌, eqb, sym, refl, ap, ◌∙◌, ap₂, arith}
+use Rattle.std.proofs.Common.{◌≡◌, ℕ, ◌+◌, ◌≤◌, Bool, cond, ◌&&◌, eqb, sym, refl, ◌∙◌, ap₂, arith}
 use Rattle.layout.specs.Counts.{count}
 use Rattle.std.proofs.lemmas.Bool.{cond_both}
 use Rattle.reading.specs.Groups.{gone_in, third_in}

@@ -1,4 +1,4 @@
-use Rattle.std.proofs.Common.{◌≡◌, ℕ, ◌-◌, ◌≤◌, ◌&&◌, eqb}
+use Rattle.std.proofs.Common.{◌≡◌, ◌-◌, ◌≤◌, ◌&&◌, eqb}
 use Rattle.layout.specs.Counts.{count}
 use Rattle.layout.specs.Group.{first_from}
 use Rattle.reading.specs.Groups.{gone_in, third_in}

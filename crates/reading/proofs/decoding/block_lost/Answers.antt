@@ -1,4 +1,3 @@
-use Rattle.std.proofs.Common.{◌+◌, ◌*◌}
 use Rattle.layout.specs.Group.{address}
 use Rattle.layout.specs.Line.{code_of}
 use Rattle.reading.specs.Arrays.{at}

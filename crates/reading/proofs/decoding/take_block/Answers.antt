@@ -1,4 +1,4 @@
-use Rattle.std.proofs.Common.{◌+◌, ◌*◌, arith}
+use Rattle.std.proofs.Common.{arith}
 use Rattle.layout.specs.Group.{address}
 use Rattle.layout.specs.Line.{code_of}
 use Rattle.reading.specs.Arrays.{at}

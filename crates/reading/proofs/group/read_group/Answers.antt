@@ -1,4 +1,4 @@
-use Rattle.std.proofs.Common.{◌≡◌, length, Err, Option, sym, refl, ap, ◌∙◌}
+use Rattle.std.proofs.Common.{length, Err, Option, ap, ◌∙◌}
 use Rattle.std.proofs.lemmas.Result.{err_from_is_err_and}
 use Rattle.losses.specs.declared.fault.ReadFault.{ReadFault}
 use Rattle.losses.specs.Faults.{size_decline}

@@ -1,4 +1,4 @@
-use Rattle.std.proofs.Common.{◌≡◌, ℕ, length, replicate, sym, refl, ap, ◌∙◌, ap₂, arith, rules}
+use Rattle.std.proofs.Common.{◌≡◌, ℕ, length, replicate, sym, ap, ◌∙◌, ap₂, arith, rules}
 use Rattle.layout.specs.Group.{group_read}
 use Rattle.layout.specs.Line.{code_of}
 use Rattle.layout.specs.Reading.{Outcome}

@@ -1,9 +1,8 @@
-use Rattle.std.proofs.Common.{◌≡◌, ℕ, ◌+◌, ◌-◌, ◌*◌, List, set, sym, refl, ap, ◌∙◌, subst, arith}
+use Rattle.std.proofs.Common.{◌≡◌, ℕ, ◌+◌, ◌-◌, ◌*◌, set, sym, ◌∙◌, subst, arith}
 use borrow.Rule.Slice.PartMut.{put_mid}
 use Rattle.std.proofs.lemmas.Bool.{cond-true, lt-ltb}
 use Rattle.layout.specs.Line.{code_of}
 use Rattle.layout.specs.Reading.{Outcome}
-use Rattle.losses.specs.declared.sheet.LossRow.{LossRow}
 use Rattle.reading.specs.Groups.{outcomes, Holds}
 use Rattle.reading.proofs.WholeGroup.{holds_more}
 use Rattle.reading.proofs.group.read_tracks.Goals as goal

@@ -1,4 +1,4 @@
-use Rattle.std.proofs.Common.{◌≡◌, ◌/◌, ◌%◌, not, ◌&&◌, sym, ap, ◌∙◌, subst, ap₂}
+use Rattle.std.proofs.Common.{◌/◌, ◌%◌, sym}
 use Rattle.reading.proofs.Firsts.{no-data, low-data, high-data, is-data}
 use Rattle.reading.proofs.places.data_number.Goals as goal
 

@@ -1,4 +1,4 @@
-use Rattle.std.proofs.Common.{◌≡◌, not, ◌&&◌, sym, ap, ◌∙◌, ap₂}
+use Rattle.std.proofs.Common.{not, ◌&&◌, sym, ◌∙◌, ap₂}
 use Rattle.layout.specs.Placing.{is_occupied, is_c1_check}
 use Rattle.reading.proofs.places.is_occupied.Goals as goal
 

@@ -1,4 +1,4 @@
-use Rattle.std.proofs.Common.{refl, arith}
+use Rattle.std.proofs.Common.{refl}
 use Rattle.layout.specs.Placing.{serial_at, serial}
 use Rattle.layout.proofs.Placing.{fits}
 use Rattle.reading.proofs.places.serial_at.Goals as goal

@@ -1,4 +1,4 @@
-use Rattle.std.proofs.Common.{◌≡◌, ◌-◌, ◌∷◌, drop, sym, refl, ◌∙◌}
+use Rattle.std.proofs.Common.{◌-◌, ◌∷◌, drop, sym, ◌∙◌}
 use Rattle.std.proofs.lemmas.Bool.{cond-true}
 use Rattle.reading.proofs.Lists.{put-kept}
 use Rattle.reading.proofs.recovery.put_before.Goals as goal

@@ -1,4 +1,4 @@
-use Rattle.std.proofs.Common.{◌≡◌, ℕ, ◌<◌, get_or, refl, rules}
+use Rattle.std.proofs.Common.{ℕ, ◌<◌, get_or, refl, rules}
 use Rattle.reed_solomon.specs.Interleaves.{interleaved}
 use Rattle.reading.proofs.Refills.{checks-is, recovered-check, recovered-fill, no-places}
 use Rattle.reading.proofs.recovery.recover.Goals as goal

@@ -1,4 +1,4 @@
-use Rattle.std.proofs.Common.{◌≡◌, sym, refl, ◌∙◌}
+use Rattle.std.proofs.Common.{sym, ◌∙◌}
 use Rattle.layout.specs.Words.{row}
 use Rattle.std.proofs.lemmas.Bool.{cond-true, cond-false}
 use Rattle.reading.specs.Arrays.{array_in}

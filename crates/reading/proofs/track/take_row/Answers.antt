@@ -1,4 +1,4 @@
-use Rattle.std.proofs.Common.{◌≡◌, ◌+◌, ◌*◌, sym, refl, ◌∙◌, ap₂, arith}
+use Rattle.std.proofs.Common.{sym, ◌∙◌, ap₂, arith}
 use Rattle.layout.specs.Words.{row}
 use Rattle.layout.specs.Placing.{block_at, serial_at}
 use Rattle.layout.proofs.Writing.{listed-is}

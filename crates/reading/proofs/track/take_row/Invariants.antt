@@ -1,4 +1,4 @@
-use Rattle.std.proofs.Common.{◌≡◌, ℕ, ◌+◌, ◌*◌, ◌<◌, get_or}
+use Rattle.std.proofs.Common.{◌≡◌, ℕ, ◌<◌, get_or}
 use Rattle.layout.specs.Placing.{block_at, serial_at}
 use Rattle.reading.specs.Arrays.{array_in}
 use Rattle.reading.proofs.track.take_row.Given as goal

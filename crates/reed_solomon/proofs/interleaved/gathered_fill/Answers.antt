@@ -1,4 +1,4 @@
-use Rattle.std.proofs.Common.{◌≡◌, ℕ, ◌<◌, length, get_or, ◌∙◌, subst, rules}
+use Rattle.std.proofs.Common.{ℕ, ◌<◌, get_or, ◌∙◌, subst, rules}
 use Rattle.reed_solomon.specs.Words.{Filled}
 use Rattle.reed_solomon.specs.Interleaves.{Scattered}
 use Rattle.reed_solomon.proofs.Recursion.{bytes-from}

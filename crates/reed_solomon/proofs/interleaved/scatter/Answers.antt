@@ -1,4 +1,4 @@
-use Rattle.std.proofs.Common.{◌≡◌, ℕ, ◌+◌, ◌*◌, ◌<◌, ◌≢◌, length, get_or, ap, ◌∙◌, arith, get_or-set_other, get_or-set_same, below_more}
+use Rattle.std.proofs.Common.{ℕ, ◌+◌, ◌*◌, ◌<◌, length, get_or, ◌∙◌, arith, get_or-set_other, get_or-set_same, below_more}
 use native.Mathlib.Nat.{mul-lt-mul_of_pos_left}
 use Rattle.reed_solomon.proofs.interleaved.scatter.Goals as goal
 

@@ -1,7 +1,7 @@
-use Rattle.std.proofs.Common.{◌≡◌, ℕ, ◌<◌, ◌≤◌, min, T, sym, refl, subst, inl, inr, arith}
+use Rattle.std.proofs.Common.{◌≡◌, ℕ, ◌<◌, min, T, sym, refl, subst, inl, inr, arith}
 use Rattle.std.proofs.lemmas.Bool.{cases_lt}
-use Rattle.reed_solomon.specs.Words.{syndrome, Checks}
-use Rattle.reed_solomon.proofs.Cycle.{checks-all, checks-less}
+use Rattle.reed_solomon.specs.Words.{syndrome}
+use Rattle.reed_solomon.proofs.Cycle.{checks-all}
 use Rattle.reed_solomon.proofs.PlaceLists.{refuted}
 use Rattle.reed_solomon.proofs.syndromes.checks.Goals as goal
 

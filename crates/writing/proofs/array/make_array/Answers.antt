@@ -1,4 +1,4 @@
-use Rattle.std.proofs.Common.{◌≡◌, get_or, ap, ◌∙◌}
+use Rattle.std.proofs.Common.{get_or, ap, ◌∙◌}
 use Rattle.writing.proofs.Made.{array_made}
 use Rattle.writing.proofs.array.make_array.Goals as goal
 

@@ -1,4 +1,4 @@
-use Rattle.std.proofs.Common.{◌≡◌, sym, ap, ◌∙◌, arith, rules}
+use Rattle.std.proofs.Common.{arith}
 use Rattle.std.proofs.lemmas.List.Edits.{fill_by_more}
 use Rattle.writing.specs.Arrays.{number_or}
 use Rattle.writing.proofs.array.number_places.Goals as goal

@@ -1,4 +1,4 @@
-use Rattle.std.proofs.Common.{◌≡◌, ℕ, ◌/◌, ◌%◌, ◌<◌, leb, [], ◌∷◌, get_or, refl, ◌∙◌, arith, lit<, lit≤, rules}
+use Rattle.std.proofs.Common.{ℕ, ◌/◌, ◌%◌, ◌<◌, [], ◌∷◌, get_or, refl, ◌∙◌, arith, lit<, lit≤, rules}
 use Rattle.layout.specs.Counts.{which}
 use Rattle.layout.specs.Writing.{c2_checks}
 use Rattle.writing.specs.Arrays.{c2_filled}

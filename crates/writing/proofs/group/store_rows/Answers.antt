@@ -1,4 +1,4 @@
-use Rattle.std.proofs.Common.{◌≡◌, ℕ, ◌+◌, ◌-◌, ◌*◌, ◌<◌, ◌≤◌, List, length, take, drop, set, Some, sym, refl, ap, ◌∙◌, arith, length-drop, length-take}
+use Rattle.std.proofs.Common.{◌≡◌, ℕ, ◌+◌, ◌-◌, ◌*◌, List, length, take, drop, set, Some, refl, ap, ◌∙◌, arith, length-drop, length-take}
 use Rattle.layout.specs.Group.{address}
 use Rattle.layout.specs.Line.{code_of, track}
 use Rattle.layout.specs.Writing.{array_of}

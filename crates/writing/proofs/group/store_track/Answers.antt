@@ -1,7 +1,7 @@
-use Rattle.std.proofs.Common.{◌≡◌, ℕ, ◌+◌, ◌-◌, ◌*◌, ◌<◌, List, length, get_or, set, Some, sym, ap, ◌∙◌, arith, rules}
+use Rattle.std.proofs.Common.{ℕ, ◌+◌, ◌-◌, ◌*◌, ◌<◌, length, get_or, set, Some, ap, ◌∙◌, arith, rules}
 use Rattle.tape.specs.Tape.{stored}
 use Rattle.layout.specs.Group.{address}
-use Rattle.layout.specs.Line.{code_of, Lawful, Valid, track}
+use Rattle.layout.specs.Line.{code_of, Lawful, Valid}
 use Rattle.layout.specs.Writing.{array_of}
 use Rattle.writing.specs.Arrays.{array_in}
 use Rattle.writing.proofs.Tracks.{track-same, track-stored}

@@ -1,4 +1,4 @@
-use Rattle.std.proofs.Common.{◌≡◌, ℕ, ◌+◌, ◌*◌, ◌/◌, ◌%◌, ◌<◌, get_or, MatchBool, refl, subst, arith, lit<, lit≤, rules}
+use Rattle.std.proofs.Common.{◌≡◌, ℕ, ◌+◌, ◌/◌, ◌%◌, ◌<◌, get_or, MatchBool, refl, subst, arith, lit<, lit≤, rules}
 use Rattle.reed_solomon.specs.Interleaves.{Refilled, Unfilled}
 use Rattle.layout.specs.Counts.{which}
 use Rattle.layout.specs.Writing.{c3_checks}

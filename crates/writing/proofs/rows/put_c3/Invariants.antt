@@ -1,4 +1,4 @@
-use Rattle.std.proofs.Common.{◌≡◌, ℕ, ◌+◌, ◌/◌, ◌%◌, ◌≤◌, length}
+use Rattle.std.proofs.Common.{◌+◌, ◌/◌, ◌%◌, ◌≤◌, length}
 use Rattle.layout.specs.Writing.{c3_checks}
 use Rattle.writing.proofs.Passes.{Passed}
 use Rattle.writing.proofs.rows.put_c3.Given as goal

@@ -1,6 +1,4 @@
-use Rattle.std.proofs.Common.{◌≡◌, ℕ, ◌*◌, ◌/◌, ◌%◌, ◌<◌, eqb, get_or, sym, ap, ◌∙◌, arith}
-use native.Mathlib.Decide.{ℕ_discrete}
-use Rattle.std.proofs.lemmas.Bool.{cond-true, cond-false, eq-eqb, ne_eqb}
+use Rattle.std.proofs.Common.{arith}
 use Rattle.writing.specs.Rows.{plain_at}
 use Rattle.writing.proofs.RowSteps.{rows_more}
 use Rattle.writing.proofs.rows.spread.Goals as goal

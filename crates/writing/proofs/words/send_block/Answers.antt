@@ -1,4 +1,4 @@
-use Rattle.std.proofs.Common.{◌≡◌, ◌+◌, ◌*◌, refl, ap, ◌∙◌, arith, lit<}
+use Rattle.std.proofs.Common.{◌+◌, ◌*◌, refl, ap, ◌∙◌, arith, lit<}
 use lib.Bits.{bit_xor}
 use Rattle.layout.specs.Group.{address}
 use Rattle.layout.specs.Line.{code_of}

@@ -1,4 +1,4 @@
-use Rattle.std.proofs.Common.{◌+◌, ◌*◌}
+use Rattle.std.proofs.Common.{◌*◌}
 use Rattle.layout.specs.Group.{address}
 use Rattle.layout.specs.Line.{code_of}
 use Rattle.writing.specs.Arrays.{array_in}

@@ -1,7 +1,7 @@
-use Rattle.std.proofs.Common.{◌≡◌, ℕ, ◌+◌, ◌^◌, ◌<◌, ◌≤◌, cond, List, [], length, take, drop, sym, ap, ◌∙◌, arith, rules}
+use Rattle.std.proofs.Common.{◌≡◌, ℕ, ◌^◌, ◌<◌, cond, List, [], length, take, drop, sym, ap, ◌∙◌, arith, rules}
 use Rattle.index.specs.declared.kind.Kind.{Kind}
 use Rattle.index.specs.Bytes.{named}
-use Rattle.index.specs.Cursors.{Cursor, cursor_of, coming}
+use Rattle.index.specs.Cursors.{Cursor, cursor_of}
 use Rattle.index.specs.Contents.{kind_in, bytes_in}
 use Rattle.index.specs.Entries.{Entry}
 use Rattle.index.proofs.Reading.{place-fits}

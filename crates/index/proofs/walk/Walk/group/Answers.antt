@@ -1,10 +1,9 @@
-use Rattle.std.proofs.Common.{◌≡◌, ℕ, ◌+◌, ◌<◌, ◌≤◌, Ok, Err, Result, sym, ap, ◌∙◌, arith, rules}
+use Rattle.std.proofs.Common.{◌≡◌, ℕ, ◌+◌, Ok, Result, sym, arith, rules}
 use Rattle.index.specs.declared.fault.GroupFault.{GroupFault}
 use Rattle.index.specs.declared.succession.State.{State}
 use Rattle.index.specs.declared.tally.Counts.{Counts}
 use Rattle.index.specs.declared.walk.Ending.{Ending}
 use Rattle.index.specs.declared.walk.Ending.TheVariants.{GoesOn, Last}
-use Rattle.index.specs.Bytes.{number}
 use Rattle.index.specs.Answers.{standing, answered, standing_after}
 use Rattle.index.proofs.Grouping.{group-within}
 use Rattle.index.proofs.Giving.{group-number, number-below, gave}

@@ -1,11 +1,11 @@
-use Rattle.std.proofs.Common.{◌≡◌, ℕ, suc, ◌+◌, length, Ok, Err, Result, sym, refl, ap, ◌∙◌, add-one, arith, rules}
+use Rattle.std.proofs.Common.{ℕ, suc, length, Err, Result, sym, refl, ap, ◌∙◌, add-one, arith}
 use Rattle.std.proofs.lemmas.Result.{err_from_is_err_and}
 use Rattle.index.specs.declared.fault.IndexFault.{IndexFault}
 use Rattle.index.specs.declared.tally.Tally.{Tally}
 use Rattle.index.specs.Walk.{next}
 use Rattle.index.specs.Contents.{meant}
 use Rattle.index.specs.Cursors.{cursor_of, remaining}
-use Rattle.index.specs.Counted.{tallied, Small, Grown}
+use Rattle.index.specs.Counted.{tallied, Grown}
 use Rattle.index.proofs.Growing.{stepped-grown}
 use Rattle.index.proofs.Turning.{turn-sound, turn-left, turn-place, turn-bytes, last_turn, more_turn, no-turn}
 use Rattle.index.proofs.walk.groups.walk_entries.Goals as goal

@@ -1,11 +1,11 @@
-use Rattle.std.proofs.Common.{◌≡◌, ℕ, ◌≤◌, Ok, Err, Result, sym, ap, ◌∙◌, subst, arith, rules}
+use Rattle.std.proofs.Common.{Err, Result, sym, ap, ◌∙◌, subst, arith}
 use Rattle.std.proofs.lemmas.Result.{err_from_is_err_and}
 use Rattle.index.specs.declared.fault.IndexFault.{IndexFault}
 use Rattle.index.specs.declared.table.Table.{Table}
 use Rattle.index.specs.declared.tally.Tally.{Tally}
 use Rattle.index.specs.Walk.{next}
 use Rattle.index.specs.Cursors.{Cursor, Sound, cursor_of}
-use Rattle.index.specs.Counted.{Starts, opened, table_in, totals_checked, table_checked}
+use Rattle.index.specs.Counted.{Starts, opened, table_in, totals_checked}
 use Rattle.index.proofs.Coming.{started-sound}
 use Rattle.index.proofs.Grouping.{table-few, table-fault, table-right, entries-walked}
 use Rattle.index.proofs.walk.groups.walk_group.Goals as goal

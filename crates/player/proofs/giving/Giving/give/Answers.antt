@@ -1,8 +1,7 @@
-use Rattle.std.proofs.Common.{◌≡◌, ℕ, ◌+◌, ◌<◌, ◌≤◌, List, length, sym, ap, ◌∙◌, subst, arith}
+use Rattle.std.proofs.Common.{sym, ap, ◌∙◌, subst, arith}
 use Rattle.index.specs.Bytes.{read_group}
-use Rattle.index.specs.Entries.{Entry}
-use Rattle.index.specs.Cursors.{cursor_of, remaining}
-use Rattle.player.specs.Shelves.{Shelf, shelf, laid_all, Fits, size_in, finished_in}
+use Rattle.index.specs.Cursors.{cursor_of}
+use Rattle.player.specs.Shelves.{shelf, laid_all, Fits, size_in, finished_in}
 use Rattle.player.proofs.Rooms.{no_output, no_rows, room, starts-sound, starts_with}
 use Rattle.player.proofs.giving.Giving.give.Goals as goal
 

@@ -1,11 +1,10 @@
-use Rattle.std.proofs.Common.{◌≡◌, ℕ, length, get_or, Ok, Err, sym, refl, ap, ◌∙◌}
+use Rattle.std.proofs.Common.{ℕ, get_or, Ok, Err, refl, ap, ◌∙◌}
 use Rattle.std.proofs.lemmas.Result.{err_from_is_err_and}
 use Rattle.index.specs.declared.succession.State.{State}
 use Rattle.index.specs.declared.tally.Counts.{Counts}
 use Rattle.index.specs.Bytes.{read_group}
 use Rattle.index.specs.Walk.{walk_group}
 use Rattle.index.specs.Answers.{standing, state_counts}
-use Rattle.playing.specs.declared.fault.GroupCause.{GroupCause}
 use Rattle.player.specs.Shelves.{shelf}
 use Rattle.player.specs.Standing.{cause_in}
 use Rattle.player.proofs.Nexts.{and_ending, number-on, next-roomy, next-went}

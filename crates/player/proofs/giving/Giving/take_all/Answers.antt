@@ -1,4 +1,4 @@
-use Rattle.std.proofs.Common.{◌≡◌, sym, ap, ◌∙◌, subst}
+use Rattle.std.proofs.Common.{sym, ap, ◌∙◌, subst}
 use Rattle.index.specs.Contents.{meant}
 use Rattle.index.specs.Cursors.{cursor_of, remaining}
 use Rattle.player.specs.Shelves.{Shelf, shelf, laid_all, Fits}

@@ -1,4 +1,4 @@
-use Rattle.std.proofs.Common.{◌≡◌, length, rules}
+use Rattle.std.proofs.Common.{length, rules}
 use Rattle.layout.specs.Line.{code_of}
 use Rattle.calls.specs.Held.{Held}
 use Rattle.recorder.specs.Views.{book_of}

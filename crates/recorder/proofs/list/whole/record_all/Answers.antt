@@ -1,4 +1,4 @@
-use Rattle.std.proofs.Common.{◌≡◌, ℕ, List, length, replicate, sym, ap, ◌∙◌, ap₂, rules}
+use Rattle.std.proofs.Common.{◌≡◌, ℕ, List, length, ap, ◌∙◌, ap₂, rules}
 use Rattle.layout.specs.Line.{code_of}
 use Rattle.runs.specs.Run.{Lent}
 use Rattle.calls.specs.Held.{Held}

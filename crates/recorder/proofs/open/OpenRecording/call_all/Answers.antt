@@ -1,4 +1,4 @@
-use Rattle.std.proofs.Common.{◌≡◌, ℕ, length, ◌∙◌, ap₂, arith}
+use Rattle.std.proofs.Common.{ℕ, length, ◌∙◌, ap₂, arith}
 use Rattle.layout.specs.Line.{code_of}
 use Rattle.runs.specs.Run.{Lent}
 use Rattle.calls.specs.Laying.{desk}

@@ -1,7 +1,6 @@
-use Rattle.std.proofs.Common.{◌≡◌, length, refl, ap, ◌∙◌}
+use Rattle.std.proofs.Common.{length, refl, ap, ◌∙◌}
 use lib.ListN.{length-replicate}
 use Rattle.layout.specs.Line.{code_of}
-use Rattle.calls.specs.Held.{Held}
 use Rattle.recorder.specs.Views.{held_in}
 use Rattle.calls.specs.Laying.{desk}
 use Rattle.recorder.proofs.Desks.{desk-stored, length-taped}

@@ -1,4 +1,4 @@
-use Rattle.std.proofs.Common.{◌≡◌, ◌-◌, ap, ◌∙◌, arith}
+use Rattle.std.proofs.Common.{◌-◌, ap, ◌∙◌, arith}
 use Rattle.layout.specs.Line.{code_of}
 use Rattle.calls.specs.Laying.{desk}
 use Rattle.recorder.specs.Views.{held_in}

@@ -1,7 +1,6 @@
-use Rattle.std.proofs.Common.{◌≡◌, ◌-◌, sym, ap, ◌∙◌, arith}
+use Rattle.std.proofs.Common.{◌-◌, sym, ap, ◌∙◌, arith}
 use Rattle.layout.specs.Line.{code_of}
-use Rattle.calls.specs.Laying.{Desk, desk, put, room, put_part}
-use Rattle.index.specs.declared.kind.Kind.TheVariants.{Last, Total}
+use Rattle.calls.specs.Laying.{desk}
 use Rattle.recorder.specs.Views.{held_in}
 use Rattle.recorder.proofs.Resting.{resting-more, rest-ends}
 use Rattle.recorder.proofs.Desks.{laid-then-total}
