@@ -1,8 +1,8 @@
 use crate::ledger::Ledger;
 
-pub mod calls;
-mod laying;
+pub mod calling;
 pub mod making;
+mod placing;
 
 /// An open recording. It alone holds its group buffer, and has to be closed: it cannot be let go.
 pub struct OpenRecording<'a> {
