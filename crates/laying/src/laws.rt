@@ -19,11 +19,16 @@ pub fn settled_stand() -> u8
     0
 }
 
-/// However many groups the rest of a record may take, from as many as its bytes on, it is laid the same; and the open
-/// group, completed, is the group that a recording stores.
+/// However many groups the rest of a record may take, from as many as its bytes on, it is laid the same.
 pub fn rests_stand() -> u8
-    ensures bound { BoundFree }
-    ensures stored { StoresOpen }
+    ensures { BoundFree }
+{
+    0
+}
+
+/// The open group, completed, is the group that a recording stores.
+pub fn groups_stand() -> u8
+    ensures { StoresOpen }
 {
     0
 }

@@ -1,5 +1,5 @@
-use Rattle.laying.proofs.Bounds.{bound-free, stores-open}
+use Rattle.laying.proofs.Bounds.{bound-free}
 use Rattle.laying.proofs.laws.rests_stand.Goals as goal
 
 pub returns : goal.returns
-returns c = record { bound = bound-free; stored = stores-open }
+returns c = bound-free
