@@ -3,9 +3,10 @@
 set -eu
 cd "$(dirname "$0")/.."
 groups=${1:-200}
-rt check speed > target/bench.log 2>&1 || { tail -n 5 target/bench.log; exit 1; }
+mkdir -p target
+(cd crates/speed && rt run > ../../target/bench.log 2>&1) || { tail -n 5 target/bench.log; exit 1; }
 cargo build --quiet --release --manifest-path bench/Cargo.toml --target-dir target/bench
 echo "the library:"
-target/bin/speed "$groups"
+crates/speed/out/speed "$groups"
 echo "plain Rust:"
 target/bench/release/bench "$groups"
