@@ -1,4 +1,4 @@
-ghost use Rattle.std.specs.Prelude.{◌≡◌, get_or, replicate, if◌then◌else◌, Some, None, nat_lt, slice_index_or, slice_set};
+ghost use Rattle.std.specs.Prelude.{◌≡◌, replicate, if◌then◌else◌, Some, None, nat_lt, slice_index_or, slice_set};
 ghost use Rattle.losses.specs.Losses.{cause_number, is_loss, no_loss};
 
 /// The number of tracks of a group.
@@ -104,7 +104,7 @@ impl LossSheet {
 
     /// Whether track `t` is lost.
     pub fn is_lost(&self, t: usize) -> bool
-        ensures { result ≡ is_loss (get_or self.now.rows t no_loss).cause }
+        ensures { result ≡ is_loss (slice_index_or self.now.rows t no_loss).cause }
     {
         self.finding(t).cause.is_loss()
     }

@@ -1,8 +1,7 @@
 ghost use Rattle.std.specs.Prelude.{◌≡◌, ℕ, ◌+◌, ◌<◌, ◌≤◌, ◌&&◌, length, drop, if◌then◌else◌, ◌==◌};
 ghost use Rattle.layout.specs.Counts.{which};
-ghost use Rattle.layout.specs.Group.{first_from};
 ghost use Rattle.reed_solomon.specs.Words.{Places};
-ghost use Rattle.reading.specs.Groups.{gone_in, third_in, bad_in, Column, Filled};
+ghost use Rattle.reading.specs.Groups.{gone_in, third_in, Column, Filled};
 
 use crate::places::data_number;
 use crate::recovery::{put_before, recover};

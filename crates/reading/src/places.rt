@@ -1,4 +1,4 @@
-ghost use Rattle.std.specs.Prelude.{◌≡◌, ℕ, ◌-◌, ◌/◌, ◌%◌, ◌<◌, ◌≤◌, not, ◌&&◌, ◌||◌, ltb, if◌then◌else◌, Some, None, ◌==◌, nat_le, nat_lt};
+ghost use Rattle.std.specs.Prelude.{◌≡◌, ℕ, ◌-◌, ◌/◌, ◌%◌, ◌<◌, ◌≤◌, ◌&&◌, ◌||◌, if◌then◌else◌, Some, None, ◌==◌, nat_le, nat_lt};
 ghost use Rattle.layout.specs.Group.{number_d, sign_d};
 ghost use Rattle.layout.specs.Placing.{block_at, serial_at, number_at, is_occupied, is_data};
 
@@ -54,7 +54,7 @@ fn is_occupied(b: usize, s: usize) -> bool
 
 /// The G3 word, among those of a serial, of the byte in an occupied block.
 fn column(b: usize) -> usize
-    ensures is { result ≡ (if ltb b 52 then b - b % 2 else b - b % 2 - 75) }
+    ensures is { result ≡ (if nat_lt b 52 then b - b % 2 else b - b % 2 - 75) }
     ensures within { result ≤ b }
 {
     let even = b - b % 2;

@@ -1,7 +1,6 @@
 ghost use Rattle.std.specs.Prelude.{◌≡◌, ℕ, ◌<◌, ◌≤◌, length, Decides, slice_index};
 ghost use Rattle.galois.specs.Galois.{gmul, alpha};
 ghost use Rattle.reed_solomon.specs.Words.{syndrome, Checks};
-ghost use Rattle.std.specs.Int.Bits.{bit_xor};
 
 use galois::field;
 use galois::tables::TIMES;

@@ -1,4 +1,4 @@
-ghost use Rattle.std.specs.Prelude.{◌≡◌, ℕ, ◌+◌, ◌-◌, ◌*◌, ◌<◌, ◌≤◌, cond, ◌&&◌, length, replicate, Some, None, slice_index, slice_set};
+ghost use Rattle.std.specs.Prelude.{◌≡◌, ℕ, ◌+◌, ◌-◌, ◌*◌, ◌<◌, ◌≤◌, ◌&&◌, length, replicate, Some, slice_index, slice_set};
 ghost use Rattle.layout.specs.Group.{address};
 ghost use Rattle.layout.specs.Line.{code_of, track};
 ghost use Rattle.layout.specs.Writing.{array_of};

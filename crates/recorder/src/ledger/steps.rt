@@ -1,4 +1,4 @@
-ghost use Rattle.std.specs.Prelude.{◌≡◌, ℕ, suc, ◌+◌, ◌-◌, ◌*◌, ◌/◌, ◌<◌, ◌≤◌};
+ghost use Rattle.std.specs.Prelude.{◌≡◌, ℕ, ◌+◌, ◌-◌, ◌*◌, ◌/◌, ◌<◌, ◌≤◌};
 ghost use Rattle.index.specs.Counted.{counted};
 ghost use Rattle.calls.specs.Held.{free, entered, turned, alerted, roomed, record_ends, mark_ends};
 ghost use Rattle.recorder.specs.Views.{book_of};
