@@ -1,7 +1,7 @@
 -- What an open recording holds stays the recording of a run through an entry, a group stored and a warning.
 use Rattle.std.proofs.Common.{◌≡◌, ℕ, ◌+◌, ◌-◌, ◌*◌, ◌≤◌, List, [], ◌++◌, length, replicate, sym, refl, ap, ◌∙◌, ap₂, arith, length-append}
 use Rattle.tape.specs.Tape.{Track}
-use Rattle.layout.specs.Line.{Code}
+use Rattle.channel.specs.Line.{Code}
 use Rattle.layout.specs.declared.settings.Settings.{Settings}
 use Rattle.writing.specs.Groups.{with_group}
 use Rattle.index.specs.declared.kind.Kind.{Kind}

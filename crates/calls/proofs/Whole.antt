@@ -4,7 +4,7 @@ use lib.ListN.{length-replicate}
 use Rattle.std.specs.List.{AllByRecursion}
 use Rattle.std.proofs.lemmas.Bool.{leb-true}
 use Rattle.tape.specs.Tape.{Track}
-use Rattle.layout.specs.Line.{Code}
+use Rattle.channel.specs.Line.{Code}
 use Rattle.layout.specs.declared.settings.Settings.{Settings}
 use Rattle.index.specs.declared.kind.Kind.{Kind}
 use Rattle.index.specs.declared.kind.Kind.TheVariants.{Total, Mark, Middle, Start, Last, Entire}

@@ -1,7 +1,7 @@
 -- Each call: its answer, and what the recording, the tape and the lent memory hold then.
 use Rattle.std.specs.Prelude.{◌≡◌, ℕ, ◌+◌, ◌-◌, ◌*◌, ◌≤◌, cond, List, length, replicate, Ok, ◌==◌, nat_le}
 use Rattle.tape.specs.Tape.{Track}
-use Rattle.layout.specs.Line.{Code}
+use Rattle.channel.specs.Line.{Code}
 use Rattle.layout.specs.declared.settings.Settings.{Settings}
 use Rattle.index.specs.Writing.{Filled}
 use Rattle.laying.specs.Lay.{Recording, current, stored}

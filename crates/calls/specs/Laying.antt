@@ -1,7 +1,7 @@
 -- Laying items from an open recording on its tape.
 use Rattle.std.specs.Prelude.{ℕ, zero, suc, ◌+◌, ◌-◌, cond, List, [], length, take, drop, replicate, nat_le}
 use Rattle.tape.specs.Tape.{Track}
-use Rattle.layout.specs.Line.{Code}
+use Rattle.channel.specs.Line.{Code}
 use Rattle.writing.specs.Groups.{with_group}
 use Rattle.index.specs.declared.kind.Kind.{Kind}
 use Rattle.index.specs.declared.kind.Kind.TheVariants.{Total, Mark, Middle, Start, Last, Entire}

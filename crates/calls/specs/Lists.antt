@@ -2,7 +2,7 @@
 use Rattle.std.specs.Prelude.{◌≡◌, ℕ, List, [], ◌∷◌, length, Ok}
 use Rattle.std.specs.List.{AllByRecursion}
 use Rattle.tape.specs.Tape.{Track}
-use Rattle.layout.specs.Line.{Code}
+use Rattle.channel.specs.Line.{Code}
 use Rattle.layout.specs.declared.settings.Settings.{Settings}
 use Rattle.laying.specs.Calls.{Call, Call.record', Call.mark', Call.warn', Sends, Listed, nothing, listed}
 use Rattle.runs.specs.Run.{Lent, Finished}

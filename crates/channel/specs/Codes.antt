@@ -2,6 +2,7 @@ use Rattle.std.specs.Prelude.{◌≡◌, ℕ, zero, suc, ◌+◌, ◌*◌, ◌/�
 use Rattle.channel.specs.declared.state.State.{State}
 use Rattle.channel.specs.declared.state.State.TheVariants.{Zero, One}
 use Rattle.channel.specs.States.{state_number}
+use Rattle.channel.specs.Line.{Code}
 
 -- The plain code: the word is the byte, and the next state is 1.
 abbrev pub plain_encode : State → ℕ → ℕ × State
@@ -10,6 +11,10 @@ plain_encode s b = (b, One)
 -- A word up to 255 gives itself, any other gives none.
 abbrev pub plain_decode : ℕ → Option ℕ
 plain_decode w = cond (nat_lt w 256) (Some w) None
+
+-- The plain code as a line code.
+abbrev pub plain_line : Code
+plain_line = record { encode = plain_encode; decode = plain_decode }
 
 -- Where a sheet holds the number of a byte in a state.
 abbrev pub place : State → ℕ → ℕ
@@ -36,6 +41,10 @@ byte_of xs (suc n) w = cond (word_of (slice_index xs n) == w) (Some (n / 2)) (by
 -- The byte whose number, in either state, has the word; none if there is none.
 abbrev pub sheet_decode : List ℕ → ℕ → Option ℕ
 sheet_decode xs w = byte_of xs (length xs) w
+
+-- A sheet as a line code.
+abbrev pub sheet_line : List ℕ → Code
+sheet_line xs = record { encode = sheet_encode xs; decode = sheet_decode xs }
 
 -- No number is above 2,047.
 abbrev pub Narrow : List ℕ → Type 0

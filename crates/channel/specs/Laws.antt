@@ -6,7 +6,8 @@ use Rattle.std.proofs.lemmas.Bool.{eq-eqb, ne_eqb, cases_eq, cases_lt, eqb-true,
 use Rattle.std.proofs.lemmas.Bool.Decides.{nat_tests}
 use Rattle.channel.specs.declared.state.State.{State}
 use Rattle.channel.specs.declared.state.State.TheVariants.{Zero, One}
-use Rattle.channel.specs.Codes.{place, word_of, byte_of, sheet_encode, sheet_decode, plain_encode, plain_decode, Narrow, Apart, Shared, free}
+use Rattle.channel.specs.Line.{Lawful}
+use Rattle.channel.specs.Codes.{place, word_of, sheet_line, byte_of, sheet_encode, sheet_decode, plain_encode, plain_decode, Narrow, Apart, Shared, free}
 
 pub byte_of-start : (xs : List ℕ) (w : ℕ) → byte_of xs 0 w ≡ None
 unfolding byte_of
@@ -131,6 +132,15 @@ pub sheet-back : (xs : List ℕ) (s : State) (b : ℕ) → length xs ≡ 512 →
 sheet-back xs s b e a h =
     let l : place s b < length xs = omega (arith, place-below s b h) in
     byte_of-finds xs (length xs) _ (place s b) l refl (λ i il ie. a i (place s b) (il, l, ie)) ∙ ap Some (place-half s b)
+
+-- a sheet of 512 numbers with no word under two bytes keeps the law
+pub sheet-lawful : (xs : List ℕ) → length xs ≡ 512 → Apart xs → Lawful (sheet_line xs)
+sheet-lawful xs e a =
+    record {
+      words = λ s x h. mod_below (slice_index xs (place s x)) 1024 (lit< tt);
+      bytes = λ w x f. let r = byte_of-some xs (length xs) w x f in omega (arith, r.1, r.3, e);
+      law = λ s x h. sheet-back xs s x e a h;
+    }
 
 -- the plain code as a sheet
 abbrev pub PlainNumbers : List ℕ → Type 0

@@ -1,4 +1,5 @@
 pub mod States
+pub mod Line
 pub mod Faults
 pub mod Codes
 pub mod Served

@@ -1,4 +1,4 @@
-ghost use Rattle.channel.specs.Codes.{plain_encode, plain_decode};
+ghost use Rattle.channel.specs.Codes.{plain_line};
 ghost use Rattle.std.proofs.Common.{rules};
 
 use crate::line::LineCode;
@@ -9,15 +9,9 @@ use crate::state::State;
 pub struct Plain;
 
 impl LineCode for Plain {
-    ghost encode = { λ _ s b. plain_encode s b };
+    ghost line = { λ _. plain_line };
 
-    ghost decode = { λ _ w. plain_decode w };
-
-    ghost back = { Prim.search rules };
-
-    ghost narrow = { Prim.search rules };
-
-    ghost bytes = { Prim.search rules };
+    ghost lawful = { λ _. record { words = Prim.search rules; bytes = Prim.search rules; law = Prim.search rules } };
 
     /// The byte itself, and state 1.
     fn encode(&self, state: State, byte: u8) -> (u16, State) {

@@ -13,8 +13,8 @@ pub fn encode_all<C: LineCode>(
     bytes: &[u8],
     words: &mut [u16],
 ) -> Option<State>
-    ensures answer { result ≡ (if nat_eq (length bytes.now) (length words.old) then Some (state_after (C.LineCode.encode code.now) state bytes.now) else None) }
-    ensures held { words.new ≡ (if nat_eq (length bytes.now) (length words.old) then encode_all (C.LineCode.encode code.now) state bytes.now else words.old) }
+    ensures answer { result ≡ (if nat_eq (length bytes.now) (length words.old) then Some (state_after (C.line code.now).encode state bytes.now) else None) }
+    ensures held { words.new ≡ (if nat_eq (length bytes.now) (length words.old) then encode_all (C.line code.now).encode state bytes.now else words.old) }
 {
     if bytes.len() != words.len() {
         return None;
@@ -32,8 +32,8 @@ pub fn encode_all<C: LineCode>(
 /// bytes or marks as words, it answers false and writes nothing.
 pub fn decode_all<C: LineCode>(code: &C, words: &[u16], bytes: &mut [u8], lost: &mut [bool]) -> bool
     ensures answer { result ≡ (length bytes.old == length words.now && length lost.old == length words.now) }
-    ensures held { bytes.new ≡ (if result then decode_all (C.LineCode.decode code.now) words.now else bytes.old) }
-    ensures marked { lost.new ≡ (if result then lost_of (C.LineCode.decode code.now) words.now else lost.old) }
+    ensures held { bytes.new ≡ (if result then decode_all (C.line code.now).decode words.now else bytes.old) }
+    ensures marked { lost.new ≡ (if result then lost_of (C.line code.now).decode words.now else lost.old) }
 {
     if bytes.len() != words.len() {
         return false;

@@ -1,7 +1,6 @@
 ghost use Rattle.std.specs.Prelude.{◌≡◌, length};
-ghost use Rattle.channel.specs.Codes.{Narrow, Apart, Inverse, sheet_encode, sheet_decode};
-ghost use Rattle.channel.specs.Laws.{sheet-back, byte_of-some};
-ghost use Rattle.std.proofs.Common.{arith, rules};
+ghost use Rattle.channel.specs.Codes.{Narrow, Apart, Inverse, sheet_line};
+ghost use Rattle.channel.specs.Laws.{sheet-lawful};
 
 use crate::line::LineCode;
 use crate::state::State;
@@ -35,15 +34,9 @@ pub struct CheckedSheet {
 }
 
 impl LineCode for CheckedSheet {
-    ghost encode = { λ c s b. sheet_encode c.numbers s b };
+    ghost line = { λ c. sheet_line c.numbers };
 
-    ghost decode = { λ c w. sheet_decode c.numbers w };
-
-    ghost back = { λ c s b h. sheet-back c.numbers s b c.size c.apart h };
-
-    ghost narrow = { first_of (Prim.search rules, Prim.grind (arith, Self.row.coded.inj)) };
-
-    ghost bytes = { λ c w b e. let f = byte_of-some c.numbers (length c.numbers) w b e in omega (arith, f.1, f.3, c.size) };
+    ghost lawful = { λ c. sheet-lawful c.numbers c.size c.apart };
 
     /// The word and the next state that the sheet has for the byte.
     fn encode(&self, state: State, byte: u8) -> (u16, State) {

@@ -10,7 +10,8 @@ use Rattle.layout.specs.Counts.{count, which, listed}
 use Rattle.layout.specs.Randomizer.{randomized}
 use Rattle.layout.specs.Placing.{block_at, serial_at, number_at, is_data, is_occupied}
 use Rattle.layout.specs.Words.{Array, Checked, Headed, c2, row, frame_byte}
-use Rattle.layout.specs.Line.{Code, Lawful, Address, Valid}
+use Rattle.channel.specs.Line.{Code, Lawful}
+use Rattle.layout.specs.Line.{Address, Valid}
 use Rattle.layout.specs.Reading
 use Rattle.layout.specs.Reading.{byte_at, Outcome, read, lost, reading}
 use Rattle.layout.specs.Group.{address, number_d, sign_d, part, joined, first_from, c3, Written, is_gone, numbered, is_none, whole, unchecked, c3_filled, subgroup, third_lost, first_bad, judged_bytes, judged_tracks, gathered, outcome, group_read, LightTrack, Spared, Kept, NeverMixed}

@@ -9,7 +9,8 @@ use Rattle.reed_solomon.proofs.Distance.{distance}
 use Rattle.layout.specs.Counts.{which, listed}
 use Rattle.layout.specs.Placing.{block_at, serial_at, is_occupied, is_c1_check}
 use Rattle.layout.specs.Words.{Array, c1_block, c1_serial, c1, c2, wide, row, Checked, frame_byte}
-use Rattle.layout.specs.Line.{Code, Lawful, Address, Valid, label, content, channel}
+use Rattle.channel.specs.Line.{Code, Lawful}
+use Rattle.layout.specs.Line.{Address, Valid, label, content, channel}
 use Rattle.layout.specs.Reading
 use Rattle.layout.specs.Reading.{is_byte, is_lost, or_zero, byte_at, cause_of, read, lost, words_from, order}
 use Rattle.layout.specs.Damage.{changed, changed_bytes, changed_frame, touched, Light, LightReads}

@@ -3,7 +3,8 @@ use Rattle.std.proofs.Common.{◌≡◌, ℕ, zero, suc, ◌+◌, ◌*◌, ◌/�
 use lib.Bits.{xor_lt}
 use Rattle.std.proofs.lemmas.Bool.{eq-eqb, ne_eqb, cond-true, cond-false, cond_both}
 use Rattle.layout.specs.Words.{Array}
-use Rattle.layout.specs.Line.{Code, Lawful, Address, Valid, label, content, sync, state, channel}
+use Rattle.channel.specs.Line.{Code, Lawful}
+use Rattle.layout.specs.Line.{Address, Valid, label, content, sync, state, channel}
 use Rattle.channel.specs.declared.state.State.{State}
 use Rattle.channel.specs.declared.state.State.TheVariants.{Zero, One}
 

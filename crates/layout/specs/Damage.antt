@@ -2,7 +2,8 @@
 use Rattle.std.specs.Prelude.{◌≡◌, ℕ, ◌+◌, ◌*◌, ◌/◌, ◌%◌, ◌<◌, ◌≤◌, Bool, not, ◌==◌, nat_lt}
 use Rattle.layout.specs.Counts.{count}
 use Rattle.layout.specs.Words.{Array, Checked, Headed, c1_block, c1_serial, wide, row}
-use Rattle.layout.specs.Line.{Code, Lawful, Address, Valid, channel}
+use Rattle.channel.specs.Line.{Code, Lawful}
+use Rattle.layout.specs.Line.{Address, Valid, channel}
 use Rattle.layout.specs.Reading.{reading, read}
 
 -- the stored words v, and the words w found

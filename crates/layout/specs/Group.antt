@@ -5,7 +5,8 @@ use Rattle.layout.specs.Counts.{count, which, listed}
 use Rattle.layout.specs.Randomizer.{randomized}
 use Rattle.layout.specs.Placing.{block_at, serial_at, number_at, is_data}
 use Rattle.layout.specs.Words.{Array, Checked, Headed}
-use Rattle.layout.specs.Line.{Code, Lawful, Address, channel}
+use Rattle.channel.specs.Line.{Code, Lawful}
+use Rattle.layout.specs.Line.{Address, channel}
 use Rattle.layout.specs.Reading.{filling, byte_at, Outcome, read, lost, reading}
 use Rattle.layout.specs.Damage.{Light}
 

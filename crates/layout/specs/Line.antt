@@ -1,24 +1,10 @@
--- Line codes, and an array in channel words.
+-- An array in channel words.
 use Rattle.std.specs.Prelude.{◌≡◌, ℕ, zero, suc, ◌+◌, ◌*◌, ◌/◌, ◌%◌, ◌<◌, cond, List, Some, Option, ◌==◌, bit_xor}
 use Rattle.channel.specs.declared.state.State.{State}
 use Rattle.channel.specs.declared.state.State.TheVariants.{Zero, One}
+use Rattle.channel.specs.Line.{Code}
 use Rattle.layout.specs.Counts.{listed}
 use Rattle.layout.specs.Words.{Array}
-
--- a line code: the word and the next state of a state and byte, and the byte of a word or none
-pub record Code : Type 0 where
-  pub encode : State → ℕ → ℕ × State
-  pub decode : ℕ → Option ℕ
-
--- the line code with these words and bytes
-abbrev pub code_of : (State → ℕ → ℕ × State) → (ℕ → Option ℕ) → Code
-code_of f g = record { encode = f; decode = g }
-
--- its law: words have ten bits, and give back the byte that they were made from
-pub record Lawful (c : Code) : Type 0 where
-  pub words : (s : State) (x : ℕ) → x < 256 → (c.encode s x).0 < 1024
-  pub bytes : (w x : ℕ) → c.decode w ≡ Some x → x < 256
-  pub law : (s : State) (x : ℕ) → x < 256 → c.decode (c.encode s x).0 ≡ Some x
 
 -- which track: the group's number, the frame, and 1 for MINUS
 pub record Address : Type 0 where

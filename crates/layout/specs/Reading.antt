@@ -4,7 +4,8 @@ use Rattle.std.specs.List.{range_with_len}
 use Rattle.reed_solomon.specs.Words.{syndrome, Checks, Bytes, Places, Off}
 use Rattle.layout.specs.Counts.{every, which}
 use Rattle.layout.specs.Words.{Array, c1, c2, c1_block, c1_serial, wide, row, frame_byte}
-use Rattle.layout.specs.Line.{Code, Address, label}
+use Rattle.channel.specs.Line.{Code}
+use Rattle.layout.specs.Line.{Address, label}
 
 -- ---- filling: the bytes at the places ps with which the word checks to r, if there are any
 

@@ -3,7 +3,7 @@ use Rattle.std.proofs.Common.{◌≡◌, ℕ, zero, suc, ◌+◌, ◌-◌, ◌*�
 use Rattle.std.proofs.lemmas.List.{append-nil}
 use Rattle.std.proofs.lemmas.Bool.{cond-true, cond-false, le-leb, eq-eqb, ne_eqb, and_from}
 use Rattle.tape.specs.Tape.{Track}
-use Rattle.layout.specs.Line.{Code, Lawful}
+use Rattle.channel.specs.Line.{Code, Lawful}
 use Rattle.layout.specs.Counts.{count}
 use Rattle.layout.specs.Group.{Found, whole, unchecked}
 use Rattle.layout.specs.declared.settings.Settings.{Settings}

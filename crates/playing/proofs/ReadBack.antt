@@ -5,7 +5,8 @@ use Rattle.tape.specs.Tape.{Track}
 use Rattle.layout.specs.Counts.{count, listed}
 use Rattle.layout.specs.Damage.{changed, changed_bytes, changed_frame, touched, Light}
 use Rattle.layout.specs.Group.{address, whole, unchecked, Written, LightTrack, Spared}
-use Rattle.layout.specs.Line.{Code, Lawful, Address, channel, track}
+use Rattle.channel.specs.Line.{Code, Lawful}
+use Rattle.layout.specs.Line.{Address, channel, track}
 use Rattle.layout.specs.Words.{Array, c1_block, c1_serial}
 use Rattle.layout.specs.Writing.{arrays}
 use Rattle.layout.proofs.Counts.{count-more, count_none, slice_index-listed}

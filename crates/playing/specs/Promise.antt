@@ -3,7 +3,7 @@ use Rattle.std.specs.Prelude.{◌≡◌, ℕ, ◌+◌, ◌-◌, ◌*◌, ◌<◌
 use Rattle.tape.specs.Tape.{Track}
 use Rattle.layout.specs.Counts.{count}
 use Rattle.layout.specs.Damage.{Light}
-use Rattle.layout.specs.Line.{Code, Lawful}
+use Rattle.channel.specs.Line.{Code, Lawful}
 use Rattle.layout.specs.declared.settings.Settings.{Settings}
 use Rattle.index.specs.Entries.{Item}
 use Rattle.runs.specs.Run.{Finished}

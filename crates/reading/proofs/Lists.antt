@@ -7,7 +7,8 @@ use Rattle.std.proofs.lemmas.Bool.{cond_both}
 use Rattle.std.proofs.lemmas.List.Edits.{fill_by_more}
 use Rattle.reed_solomon.specs.Words.{Places, Distinct}
 use Rattle.layout.specs.Counts.{which}
-use Rattle.layout.specs.Line.{Code, Address, label}
+use Rattle.channel.specs.Line.{Code}
+use Rattle.layout.specs.Line.{Address, label}
 use Rattle.layout.specs.Reading.{block_lost, is_byte}
 use Rattle.layout.proofs.Counts.{which-below, which-distinct}
 

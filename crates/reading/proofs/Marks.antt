@@ -5,7 +5,8 @@ use Rattle.std.proofs.lemmas.Bool.{eq-eqb, eqb-true, ne_eqb}
 use Rattle.reed_solomon.specs.Interleaves.{interleaved}
 use Rattle.layout.specs.Counts.{every, listed}
 use Rattle.layout.specs.Words.{c1, c1_block, c1_serial}
-use Rattle.layout.specs.Line.{Code, Address}
+use Rattle.channel.specs.Line.{Code}
+use Rattle.layout.specs.Line.{Address}
 use Rattle.layout.specs.Reading.{block_lost, byte_lost, value, c1_read, checks, is_lost, or_zero}
 use Rattle.layout.proofs.Counts.{every-at, every-from, listed_same}
 use Rattle.reading.specs.Arrays.{c1_number, lost_in, Taken}

@@ -4,7 +4,8 @@ use Rattle.std.specs.List.{AllByRecursion}
 use Rattle.std.proofs.lemmas.Bool.{cond_both, eqb-false}
 use Rattle.tape.specs.Tape.{Track}
 use Rattle.layout.specs.Words.{Array, wide, row, frame_byte}
-use Rattle.layout.specs.Line.{Code, Address}
+use Rattle.channel.specs.Line.{Code}
+use Rattle.layout.specs.Line.{Address}
 use Rattle.layout.specs.Reading.{read, lost, reading, judged, order, erased, value, erasures, filled, corrected, cause, cause_of}
 use Rattle.layout.specs.Group.{address, outcome}
 use Rattle.layout.proofs.Light.{words-from, light-reads}

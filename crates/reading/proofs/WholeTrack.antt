@@ -4,7 +4,8 @@ use Rattle.std.proofs.lemmas.Bool.{cond-true, cond-false, eq-eqb, ne_eqb}
 use Rattle.reed_solomon.specs.Interleaves.{interleaved}
 use Rattle.layout.specs.Placing.{block_at, serial_at}
 use Rattle.layout.specs.Words.{row, frame_byte}
-use Rattle.layout.specs.Line.{Code, Address}
+use Rattle.channel.specs.Line.{Code}
+use Rattle.layout.specs.Line.{Address}
 use Rattle.layout.specs.Reading.{value, erased, c1_read, checks, corrected, judged, order, reading, read, lost}
 use Rattle.layout.proofs.Counts.{listed_same}
 use Rattle.layout.proofs.Placing.{fits}

@@ -4,7 +4,8 @@ use Rattle.std.specs.List.{range_with_len}
 use Rattle.reed_solomon.specs.Interleaves.{interleaved}
 use Rattle.layout.specs.Counts.{every}
 use Rattle.layout.specs.Words.{Array, wide}
-use Rattle.layout.specs.Line.{Code, Address}
+use Rattle.channel.specs.Line.{Code}
+use Rattle.layout.specs.Line.{Address}
 use Rattle.layout.specs.Group.{is_none}
 use Rattle.layout.specs.Reading.{filling, byte_at, byte_lost, value, corrected, cause as cause_in, judged, order, words_from, lost}
 

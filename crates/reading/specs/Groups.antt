@@ -6,7 +6,7 @@ use Rattle.tape.specs.Tape.{Track}
 use Rattle.layout.specs.Counts.{count, which, listed}
 use Rattle.layout.specs.Randomizer.{randomized}
 use Rattle.layout.specs.Placing.{number_at, is_data}
-use Rattle.layout.specs.Line.{Code}
+use Rattle.channel.specs.Line.{Code}
 use Rattle.layout.specs.Reading.{filling, byte_at, Outcome}
 use Rattle.layout.specs.Group.{address, number_d, sign_d, joined, first_from, is_none, Found, whole, third, unchecked, outcome, numbered, group_read}
 use Rattle.losses.specs.declared.sheet.LossRow.{LossRow}

@@ -2,7 +2,8 @@
 use Rattle.std.specs.Prelude.{◌≡◌, ℕ, ◌+◌, ◌/◌, ◌<◌, Bool, true, ◌⊎◌, List, None, Ok, Err}
 use Rattle.tape.specs.Tape.{Track}
 use Rattle.layout.specs.Words.{Array, Checked, Headed, row}
-use Rattle.layout.specs.Line.{Code, Lawful, Address, channel}
+use Rattle.channel.specs.Line.{Code, Lawful}
+use Rattle.layout.specs.Line.{Address, channel}
 use Rattle.layout.specs.Reading.{Outcome, read, lost, reading}
 use Rattle.layout.specs.Damage.{Light}
 use Rattle.layout.specs.Group.{address, outcome, Written, Spared}

@@ -1,6 +1,6 @@
 ghost use Rattle.std.specs.Prelude.{◌≡◌, ℕ, ◌+◌, ◌*◌, ◌<◌, ◌&&◌, ◌||◌, length, ◌==◌};
 ghost use Rattle.layout.specs.Group.{address};
-ghost use Rattle.layout.specs.Line.{code_of, label};
+ghost use Rattle.layout.specs.Line.{label};
 ghost use Rattle.layout.specs.Reading.{is_byte, is_lost, or_zero, block_lost};
 ghost use Rattle.reading.specs.Arrays.{at, Taken};
 
@@ -69,7 +69,7 @@ fn block_lost<C: LineCode>(code: &C, words: &[u16], group: u16, t: usize, b: usi
     requires t_bound { t < 46 }
     requires words_len { length words.now ≡ 4608 }
     requires b_bound { b < 128 }
-    ensures { result ≡ block_lost (code_of (C.LineCode.encode code.now) (C.LineCode.decode code.now)) (address group t) (at words.now) b }
+    ensures { result ≡ block_lost (C.line code.now) (address group t) (at words.now) b }
 {
     let w1 = first_label(group, t, b);
     let w2 = b as u8;
@@ -108,9 +108,9 @@ fn take_block<C: LineCode>(
     requires array { length array.old ≡ 4096 }
     requires lost { length lost.old ≡ 128 }
     requires block { b < 128 }
-    requires all { all ≡ block_lost (code_of (C.LineCode.encode code.now) (C.LineCode.decode code.now)) (address group t) (at words.now) b }
-    requires so_far { Taken (code_of (C.LineCode.encode code.now) (C.LineCode.decode code.now)) (address group t) (at words.now) array.old lost.old (32 * b) }
-    ensures { Taken (code_of (C.LineCode.encode code.now) (C.LineCode.decode code.now)) (address group t) (at words.now) array.new lost.new (32 * (b + 1)) }
+    requires all { all ≡ block_lost (C.line code.now) (address group t) (at words.now) b }
+    requires so_far { Taken (C.line code.now) (address group t) (at words.now) array.old lost.old (32 * b) }
+    ensures { Taken (C.line code.now) (address group t) (at words.now) array.new lost.new (32 * (b + 1)) }
 {
     for s in 0..BLOCK_BYTES {
         let (byte, none) = byte_or_zero(code.decode(words[BLOCK_WORDS * b + (4 + s)]));
@@ -132,8 +132,8 @@ pub(crate) fn take_bytes<C: LineCode>(
     requires words { length words.now ≡ 4608 }
     requires array { length array.old ≡ 4096 }
     requires lost { length lost.old ≡ 128 }
-    requires so_far { Taken (code_of (C.LineCode.encode code.now) (C.LineCode.decode code.now)) (address group t) (at words.now) array.old lost.old 0 }
-    ensures { Taken (code_of (C.LineCode.encode code.now) (C.LineCode.decode code.now)) (address group t) (at words.now) array.new lost.new 4096 }
+    requires so_far { Taken (C.line code.now) (address group t) (at words.now) array.old lost.old 0 }
+    ensures { Taken (C.line code.now) (address group t) (at words.now) array.new lost.new 4096 }
 {
     for b in 0..BLOCKS {
         let all = block_lost(code, words, group, t, b);

@@ -1,5 +1,4 @@
 ghost use Rattle.std.specs.Prelude.{◌≡◌, ℕ, ◌+◌, ◌-◌, ◌*◌, ◌<◌, ◌≤◌, length, replicate, None, OnOk, slice_index};
-ghost use Rattle.layout.specs.Line.{code_of};
 ghost use Rattle.losses.specs.Faults.{answered, unless, declined_or, size_decline, group_decline, absent};
 ghost use Rattle.reading.specs.Groups.{findings, outcomes, found, Holds, found_in, answer_of, group_after};
 ghost use Rattle.losses.specs.Losses.{loss_row, row_after};
@@ -41,8 +40,8 @@ fn read_one<T: Playable, C: LineCode>(
     requires buffer { length buffer.old ≡ 4608 }
     requires array { length array.old ≡ 4096 }
     requires row { length row.old ≡ 2912 }
-    ensures finding { result ≡ loss_row (outcomes (code_of (C.LineCode.encode code.now) (C.LineCode.decode code.now)) number (T.Playable.tracks tape.now) t) }
-    ensures bytes { row.new ≡ row_after (outcomes (code_of (C.LineCode.encode code.now) (C.LineCode.decode code.now)) number (T.Playable.tracks tape.now) t) row.old }
+    ensures finding { result ≡ loss_row (outcomes (C.line code.now) number (T.Playable.tracks tape.now) t) }
+    ensures bytes { row.new ≡ row_after (outcomes (C.line code.now) number (T.Playable.tracks tape.now) t) row.old }
 {
     match tape.fetch(TRACKS * (number as usize - 1) + t, buffer) {
         Ok(()) => read_words(code, buffer, number, t, array, row),
@@ -70,7 +69,7 @@ fn read_tracks<T: Playable, C: LineCode>(
     requires array { length array.old ≡ 4096 }
     requires rows { length rows.old ≡ 133952 }
     requires zero { (p : ℕ) → slice_index rows.old p ≡ 0 }
-    ensures { Holds (outcomes (code_of (C.LineCode.encode code.now) (C.LineCode.decode code.now)) number (T.Playable.tracks tape.now)) rows.new sheet.new.rows 46 }
+    ensures { Holds (outcomes (C.line code.now) number (T.Playable.tracks tape.now)) rows.new sheet.new.rows 46 }
 {
     *sheet = LossSheet::new();
     for t in 0..TRACKS {
@@ -128,9 +127,9 @@ fn read_present<T: Playable, C: LineCode>(
     requires bench { length bench.old ≡ 138048 }
     requires group { length group.old ≡ 126632 }
     requires start { settings.start < 32768 }
-    ensures answer { result ≡ answer_of (findings (code_of (C.LineCode.encode code.now) (C.LineCode.decode code.now)) number (T.Playable.tracks tape.now)) (found (code_of (C.LineCode.encode code.now) (C.LineCode.decode code.now)) settings.tap settings.start number (T.Playable.tracks tape.now)) }
-    ensures bytes { group.new ≡ group_after (found (code_of (C.LineCode.encode code.now) (C.LineCode.decode code.now)) settings.tap settings.start number (T.Playable.tracks tape.now)) group.old }
-    ensures findings { sheet.new.rows ≡ findings (code_of (C.LineCode.encode code.now) (C.LineCode.decode code.now)) number (T.Playable.tracks tape.now) }
+    ensures answer { result ≡ answer_of (findings (C.line code.now) number (T.Playable.tracks tape.now)) (found (C.line code.now) settings.tap settings.start number (T.Playable.tracks tape.now)) }
+    ensures bytes { group.new ≡ group_after (found (C.line code.now) settings.tap settings.start number (T.Playable.tracks tape.now)) group.old }
+    ensures findings { sheet.new.rows ≡ findings (C.line code.now) number (T.Playable.tracks tape.now) }
 {
     bench.fill(0);
     let (rows, array) = bench.split_at_mut(ROWS);
@@ -186,9 +185,9 @@ pub fn read_group<T: Playable, C: LineCode>(
     group: &mut [u8],
     sheet: &mut LossSheet,
 ) -> Result<(), ReadFault>
-    ensures answer { result ≡ declined_or (group_decline (size_decline (length buffer.old) settings.tap settings.start (length group.old) (length bench.old)) number (length (T.Playable.tracks tape.now))) (answer_of (findings (code_of (C.LineCode.encode code.now) (C.LineCode.decode code.now)) number (T.Playable.tracks tape.now)) (found (code_of (C.LineCode.encode code.now) (C.LineCode.decode code.now)) settings.tap settings.start number (T.Playable.tracks tape.now))) }
-    ensures bytes { group.new ≡ unless (group_decline (size_decline (length buffer.old) settings.tap settings.start (length group.old) (length bench.old)) number (length (T.Playable.tracks tape.now))) (group_after (found (code_of (C.LineCode.encode code.now) (C.LineCode.decode code.now)) settings.tap settings.start number (T.Playable.tracks tape.now)) group.old) group.old }
-    ensures findings { sheet.new.rows ≡ unless (group_decline (size_decline (length buffer.old) settings.tap settings.start (length group.old) (length bench.old)) number (length (T.Playable.tracks tape.now))) (findings (code_of (C.LineCode.encode code.now) (C.LineCode.decode code.now)) number (T.Playable.tracks tape.now)) sheet.old.rows }
+    ensures answer { result ≡ declined_or (group_decline (size_decline (length buffer.old) settings.tap settings.start (length group.old) (length bench.old)) number (length (T.Playable.tracks tape.now))) (answer_of (findings (C.line code.now) number (T.Playable.tracks tape.now)) (found (C.line code.now) settings.tap settings.start number (T.Playable.tracks tape.now))) }
+    ensures bytes { group.new ≡ unless (group_decline (size_decline (length buffer.old) settings.tap settings.start (length group.old) (length bench.old)) number (length (T.Playable.tracks tape.now))) (group_after (found (C.line code.now) settings.tap settings.start number (T.Playable.tracks tape.now)) group.old) group.old }
+    ensures findings { sheet.new.rows ≡ unless (group_decline (size_decline (length buffer.old) settings.tap settings.start (length group.old) (length bench.old)) number (length (T.Playable.tracks tape.now))) (findings (C.line code.now) number (T.Playable.tracks tape.now)) sheet.old.rows }
     ensures bench_zero { bench.new ≡ unless (size_decline (length buffer.old) settings.tap settings.start (length group.old) (length bench.old)) (replicate (length bench.old) 0) bench.old }
     ensures buffer_zero { buffer.new ≡ unless (size_decline (length buffer.old) settings.tap settings.start (length group.old) (length bench.old)) (replicate (length buffer.old) 0) buffer.old }
 {

@@ -1,6 +1,5 @@
 ghost use Rattle.std.specs.Prelude.{◌≡◌, ℕ, ◌+◌, ◌/◌, ◌<◌, ◌&&◌, length, replicate, ◌==◌, slice_index};
 ghost use Rattle.layout.specs.Group.{address};
-ghost use Rattle.layout.specs.Line.{code_of};
 ghost use Rattle.layout.specs.Reading.{reading};
 ghost use Rattle.layout.specs.Words.{row as row_of, frame_byte};
 ghost use Rattle.reading.specs.Arrays.{at, array_in};
@@ -66,7 +65,7 @@ fn judge<C: LineCode>(code: &C, words: &[u16], group: u16, t: usize, array: &mut
     requires track { t < 46 }
     requires words { length words.now ≡ 4608 }
     requires array { length array.old ≡ 4096 }
-    ensures { Judged (reading (code_of (C.LineCode.encode code.now) (C.LineCode.decode code.now)) (address group t) (at words.now)) array.new result }
+    ensures { Judged (reading (C.line code.now) (address group t) (at words.now)) array.new result }
 {
     let mut lost = [false; c1::C1_WORDS];
     decoding::take_bytes(code, words, group, t, array, &mut lost);
@@ -98,8 +97,8 @@ pub(crate) fn read_words<C: LineCode>(
     requires words { length words.now ≡ 4608 }
     requires array { length array.old ≡ 4096 }
     requires row { length row.old ≡ 2912 }
-    ensures finding { result ≡ loss_row (reading (code_of (C.LineCode.encode code.now) (C.LineCode.decode code.now)) (address group t) (at words.now)) }
-    ensures bytes { row.new ≡ row_after (reading (code_of (C.LineCode.encode code.now) (C.LineCode.decode code.now)) (address group t) (at words.now)) row.old }
+    ensures finding { result ≡ loss_row (reading (C.line code.now) (address group t) (at words.now)) }
+    ensures bytes { row.new ≡ row_after (reading (C.line code.now) (address group t) (at words.now)) row.old }
 {
     let finding = judge(code, words, group, t, array);
     if finding.cause.is_loss() {
@@ -119,8 +118,8 @@ pub fn read_track<C: LineCode>(
     array: &mut [u8],
     row: &mut [u8],
 ) -> Result<LossRow, TrackFault>
-    ensures answer { result ≡ answered (track_decline (length words.now) (length row.old) (length array.old) t) (loss_row (reading (code_of (C.LineCode.encode code.now) (C.LineCode.decode code.now)) (address group t) (at words.now))) }
-    ensures bytes { row.new ≡ unless (track_decline (length words.now) (length row.old) (length array.old) t) (row_after (reading (code_of (C.LineCode.encode code.now) (C.LineCode.decode code.now)) (address group t) (at words.now)) row.old) row.old }
+    ensures answer { result ≡ answered (track_decline (length words.now) (length row.old) (length array.old) t) (loss_row (reading (C.line code.now) (address group t) (at words.now))) }
+    ensures bytes { row.new ≡ unless (track_decline (length words.now) (length row.old) (length array.old) t) (row_after (reading (C.line code.now) (address group t) (at words.now)) row.old) row.old }
     ensures zeroed { array.new ≡ unless (track_decline (length words.now) (length row.old) (length array.old) t) (replicate (length array.old) 0) array.old }
 {
     if words.len() != WORDS {

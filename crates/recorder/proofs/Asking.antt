@@ -3,7 +3,7 @@ use Rattle.std.proofs.Common.{◌≡◌, ℕ, zero, suc, ◌+◌, ◌<◌, ◌�
 use Rattle.std.proofs.lemmas.List.{append-nil, append_assoc}
 use lib.ListN.{length-map}
 use Rattle.index.specs.Bytes.{Small}
-use Rattle.layout.specs.Line.{Code}
+use Rattle.channel.specs.Line.{Code}
 use Rattle.runs.specs.Run.{Lent}
 use Rattle.std.specs.List.{AllByRecursion}
 use Rattle.laying.specs.Calls.{Call, Sends}

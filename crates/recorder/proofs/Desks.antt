@@ -5,7 +5,7 @@ use Rattle.std.proofs.lemmas.Bool.Decides.{nat_tests}
 use Rattle.writing.specs.Groups.{Answer as Written, lent, reached, and_then as after, outcome as written, with_group}
 use Rattle.index.specs.Writing.{fits}
 use Rattle.tape.specs.Tape.{Track}
-use Rattle.layout.specs.Line.{Code}
+use Rattle.channel.specs.Line.{Code}
 use Rattle.index.specs.declared.kind.Kind.TheVariants.{Last, Total}
 use Rattle.runs.proofs.Storing.{stored-length}
 use Rattle.calls.specs.Held.{Book, Held, turned}

@@ -2,7 +2,7 @@
 use Rattle.std.proofs.Common.{◌≡◌, ℕ, zero, suc, ◌+◌, ◌-◌, ◌*◌, ◌<◌, ◌≤◌, Bool, true, false, cond, leb, List, [], length, take, drop, sym, refl, ap, ◌∙◌, subst, arith, length-drop, take_all}
 use Rattle.std.proofs.lemmas.Bool.{leb-false, cond-false, cond-true}
 use Rattle.std.proofs.lemmas.Bool.Decides.{nat_tests}
-use Rattle.layout.specs.Line.{Code}
+use Rattle.channel.specs.Line.{Code}
 use Rattle.index.specs.declared.kind.Kind.TheVariants.{Start, Middle, Last, Entire, Total}
 use Rattle.calls.specs.Held.{Book, free, rest_ends}
 use Rattle.calls.specs.Laying.{Desk, stored_on, put, put_part, room, lay_rest, lay_parts, lay_begun, lay_record}

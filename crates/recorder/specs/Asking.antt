@@ -4,7 +4,7 @@ use Rattle.laying.specs.Calls.{Call as Asks, Call.record', Call.mark', Call.warn
 use Rattle.runs.specs.Run.{Lent}
 use Rattle.calls.specs.Declines.{Answer}
 use Rattle.calls.specs.Laying.{Desk}
-use Rattle.layout.specs.Line.{Code}
+use Rattle.channel.specs.Line.{Code}
 use Rattle.calls.specs.Lists.{done_to}
 use Rattle.calls.specs.Calls.{cleared, admits}
 use Rattle.recorder.specs.declared.list.Call.{Call}

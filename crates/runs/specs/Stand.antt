@@ -1,7 +1,7 @@
 -- Where the groups of a recording stand on its tape, and what walking them gives.
 use Rattle.std.specs.Prelude.{◌≡◌, ℕ, suc, ◌+◌, ◌*◌, ◌<◌, ◌≤◌, cond, List, [], map, length, Some, None, Ok, ◌==◌, slice_index, slice_index_or}
 use Rattle.tape.specs.Tape.{Track}
-use Rattle.layout.specs.Line.{Code}
+use Rattle.channel.specs.Line.{Code}
 use Rattle.layout.specs.declared.settings.Settings.{Settings}
 use Rattle.writing.specs.Groups.{group_track}
 use Rattle.index.specs.Entries.{Item}

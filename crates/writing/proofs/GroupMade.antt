@@ -4,7 +4,8 @@ use Rattle.std.proofs.lemmas.List.{get_or-take, get_or-drop, get_or_append_left}
 use Rattle.tape.specs.Tape.{Track}
 use Rattle.layout.specs.Counts.{listed}
 use Rattle.layout.specs.Group.{address}
-use Rattle.layout.specs.Line.{Code, track}
+use Rattle.channel.specs.Line.{Code}
+use Rattle.layout.specs.Line.{track}
 use Rattle.layout.specs.Writing.{array_of, byte_of, arrays}
 use Rattle.layout.proofs.Writing.{listed-is}
 use Rattle.writing.specs.Groups.{group_track, with_tracks, with_group}

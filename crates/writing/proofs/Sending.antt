@@ -5,7 +5,8 @@ use Rattle.std.proofs.lemmas.Bool.{cond-true, cond-false, eq-eqb, ne_eqb}
 use Rattle.channel.specs.declared.state.State.{State}
 use Rattle.channel.specs.declared.state.State.TheVariants.{Zero, One}
 use Rattle.layout.specs.Words.{Array}
-use Rattle.layout.specs.Line.{Code, Address, label, content, sync, state, channel, track}
+use Rattle.channel.specs.Line.{Code}
+use Rattle.layout.specs.Line.{Address, label, content, sync, state, channel, track}
 use Rattle.layout.proofs.Writing.{listed-is}
 use Rattle.writing.specs.Sending.{Sent}
 

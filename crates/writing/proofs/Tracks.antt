@@ -5,7 +5,8 @@ use Rattle.channel.specs.declared.state.State.{State}
 use Rattle.channel.specs.declared.state.State.TheVariants.{Zero, One}
 use Rattle.tape.specs.Tape.{Track, narrow, stored}
 use Rattle.layout.specs.Words.{Array}
-use Rattle.layout.specs.Line.{Code, Lawful, Address, Valid, content, sync, state, channel, track}
+use Rattle.channel.specs.Line.{Code, Lawful}
+use Rattle.layout.specs.Line.{Address, Valid, content, sync, state, channel, track}
 use Rattle.layout.proofs.Counts.{length-listed, slice_index-listed, listed_same}
 use Rattle.layout.proofs.Stored.{content-lt}
 

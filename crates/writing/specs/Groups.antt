@@ -3,7 +3,8 @@ use Rattle.std.specs.Prelude.{ℕ, ◌+◌, ◌-◌, ◌*◌, cond, ◌&&◌, Li
 use Rattle.std.specs.List.{range_with_len}
 use Rattle.tape.specs.Tape.{Track}
 use Rattle.layout.specs.Group.{address}
-use Rattle.layout.specs.Line.{Code, track}
+use Rattle.channel.specs.Line.{Code}
+use Rattle.layout.specs.Line.{track}
 use Rattle.layout.specs.Writing.{arrays}
 use Rattle.writing.specs.declared.fault.WriteFault.{WriteFault}
 use Rattle.writing.specs.declared.fault.WriteFault.TheVariants.{TrackBuffer, Setting, GroupBuffer, Bench, NoGroup}

@@ -2,7 +2,8 @@
 use Rattle.std.specs.Prelude.{◌≡◌, ℕ, ◌<◌, List, length, slice_index}
 use Rattle.channel.specs.declared.state.State.{State}
 use Rattle.layout.specs.Words.{Array}
-use Rattle.layout.specs.Line.{Code, Address, state, channel}
+use Rattle.channel.specs.Line.{Code}
+use Rattle.layout.specs.Line.{Address, state, channel}
 
 -- of the track of array x at address t, the words below i stand in ws, and s is the state after them
 pub record Sent (c : Code) (t : Address) (x : Array) (ws : List ℕ) (s : State) (i : ℕ) : Type 0 where

@@ -1,6 +1,6 @@
 ghost use Rattle.std.specs.Prelude.{◌≡◌, ℕ, ◌+◌, ◌-◌, ◌*◌, ◌<◌, ◌≤◌, ◌&&◌, length, replicate, Some, slice_index, slice_set};
 ghost use Rattle.layout.specs.Group.{address};
-ghost use Rattle.layout.specs.Line.{code_of, track};
+ghost use Rattle.layout.specs.Line.{track};
 ghost use Rattle.layout.specs.Writing.{array_of};
 ghost use Rattle.writing.specs.Arrays.{number_or};
 ghost use Rattle.writing.specs.Groups.{lent, reached, and_then, outcome, with_tracks, with_group};
@@ -32,7 +32,7 @@ fn store_track<T: Recordable, C: LineCode>(
     requires array_len { length array.old ≡ 4096 }
     requires buffer_len { length buffer.old ≡ 4608 }
     ensures kept { T.Recordable.rest tape.new ≡ T.Recordable.rest tape.old }
-    ensures tape { T.Playable.tracks tape.new ≡ slice_set (T.Playable.tracks tape.old) (46 * (number - 1) + t) (Some (track (code_of (C.LineCode.encode code.now) (C.LineCode.decode code.now)) (address number t) (array_of row.now))) }
+    ensures tape { T.Playable.tracks tape.new ≡ slice_set (T.Playable.tracks tape.old) (46 * (number - 1) + t) (Some (track (C.line code.now) (address number t) (array_of row.now))) }
 {
     array::make_array(numbers, row, array);
     words::send_track(code, number, t, array, buffer);
@@ -57,7 +57,7 @@ fn store_rows<T: Recordable, C: LineCode>(
     requires array_len { length array.old ≡ 4096 }
     requires buffer_len { length buffer.old ≡ 4608 }
     ensures kept { T.Recordable.rest tape.new ≡ T.Recordable.rest tape.old }
-    ensures tape { T.Playable.tracks tape.new ≡ with_tracks (λ t. track (code_of (C.LineCode.encode code.now) (C.LineCode.decode code.now)) (address number t) (array_of (row_in rows.now t))) number (T.Playable.tracks tape.old) }
+    ensures tape { T.Playable.tracks tape.new ≡ with_tracks (λ t. track (C.line code.now) (address number t) (array_of (row_in rows.now t))) number (T.Playable.tracks tape.old) }
 {
     for t in 0..46 {
         store_track(
@@ -90,7 +90,7 @@ fn store_group<T: Recordable, C: LineCode>(
     requires bench_len { length bench.old ≡ 138048 }
     requires buffer_len { length buffer.old ≡ 4608 }
     ensures kept { T.Recordable.rest tape.new ≡ T.Recordable.rest tape.old }
-    ensures tape { T.Playable.tracks tape.new ≡ with_group (code_of (C.LineCode.encode code.now) (C.LineCode.decode code.now)) settings.tap settings.start number group.now (T.Playable.tracks tape.old) }
+    ensures tape { T.Playable.tracks tape.new ≡ with_group (C.line code.now) settings.tap settings.start number group.now (T.Playable.tracks tape.old) }
 {
     let mut pad = [0u8; 5756];
     let mut numbers = [0u16; 4096];
@@ -143,7 +143,7 @@ fn put_group<T: Recordable, C: LineCode>(
     requires buffer_len { length buffer.old ≡ 4608 }
     ensures answer { result ≡ reached number (length (T.Playable.tracks tape.old)) }
     ensures kept { T.Recordable.rest tape.new ≡ T.Recordable.rest tape.old }
-    ensures tape { T.Playable.tracks tape.new ≡ outcome (reached number (length (T.Playable.tracks tape.old))) (with_group (code_of (C.LineCode.encode code.now) (C.LineCode.decode code.now)) settings.tap settings.start number group.now (T.Playable.tracks tape.old)) (T.Playable.tracks tape.old) }
+    ensures tape { T.Playable.tracks tape.new ≡ outcome (reached number (length (T.Playable.tracks tape.old))) (with_group (C.line code.now) settings.tap settings.start number group.now (T.Playable.tracks tape.old)) (T.Playable.tracks tape.old) }
 {
     if number == 0 {
         return Err(WriteFault::NoGroup);
@@ -168,7 +168,7 @@ pub fn write_group<T: Recordable, C: LineCode>(
 ) -> Result<(), WriteFault>
     ensures answer { result ≡ and_then (lent (length buffer.old) settings.tap settings.start (length group.now) (length bench.old)) (reached number (length (T.Playable.tracks tape.old))) }
     ensures kept { T.Recordable.rest tape.new ≡ T.Recordable.rest tape.old }
-    ensures tape { T.Playable.tracks tape.new ≡ outcome result (with_group (code_of (C.LineCode.encode code.now) (C.LineCode.decode code.now)) settings.tap settings.start number group.now (T.Playable.tracks tape.old)) (T.Playable.tracks tape.old) }
+    ensures tape { T.Playable.tracks tape.new ≡ outcome result (with_group (C.line code.now) settings.tap settings.start number group.now (T.Playable.tracks tape.old)) (T.Playable.tracks tape.old) }
     ensures bench { bench.new ≡ outcome (lent (length buffer.old) settings.tap settings.start (length group.now) (length bench.old)) (replicate (length bench.old) 0) bench.old }
     ensures buffer { buffer.new ≡ outcome (lent (length buffer.old) settings.tap settings.start (length group.now) (length bench.old)) (replicate (length buffer.old) 0) buffer.old }
 {

@@ -1,6 +1,6 @@
 ghost use Rattle.std.specs.Prelude.{◌≡◌, ◌+◌, ◌*◌, ◌<◌, length, slice_set};
 ghost use Rattle.layout.specs.Group.{address};
-ghost use Rattle.layout.specs.Line.{code_of, label, sync, track};
+ghost use Rattle.layout.specs.Line.{label, sync, track};
 ghost use Rattle.writing.specs.Arrays.{array_in};
 ghost use Rattle.writing.specs.Sending.{Sent};
 
@@ -35,8 +35,8 @@ fn sync_after(state: State) -> u16
 /// Puts the word of a byte at place `i`, and gives the next state.
 fn send<C: LineCode>(code: &C, state: State, byte: u8, words: &mut [u16], i: usize) -> State
     requires { i < length words.old }
-    ensures next { result ≡ (C.LineCode.encode code.now state byte).1 }
-    ensures words { words.new ≡ slice_set words.old i (C.LineCode.encode code.now state byte).0 }
+    ensures next { result ≡ ((C.line code.now).encode state byte).1 }
+    ensures words { words.new ≡ slice_set words.old i ((C.line code.now).encode state byte).0 }
 {
     let (word, next) = code.encode(state, byte);
     words[i] = word;
@@ -56,8 +56,8 @@ fn send_block<C: LineCode>(
     requires t_bound { t < 46 }
     requires b_bound { b < 128 }
     requires array_len { length array.now ≡ 4096 }
-    requires sent { Sent (code_of (C.LineCode.encode code.now) (C.LineCode.decode code.now)) (address group t) (array_in array.now) words.old before (36 * b) }
-    ensures { Sent (code_of (C.LineCode.encode code.now) (C.LineCode.decode code.now)) (address group t) (array_in array.now) words.new result (36 * b + 36) }
+    requires sent { Sent (C.line code.now) (address group t) (array_in array.now) words.old before (36 * b) }
+    ensures { Sent (C.line code.now) (address group t) (array_in array.now) words.new result (36 * b + 36) }
 {
     let w1 = first_label(group, t, b);
     let w2 = b as u8;
@@ -83,7 +83,7 @@ pub(crate) fn send_track<C: LineCode>(
     requires t_bound { t < 46 }
     requires array_len { length array.now ≡ 4096 }
     requires words_len { length words.old ≡ 4608 }
-    ensures { words.new ≡ track (code_of (C.LineCode.encode code.now) (C.LineCode.decode code.now)) (address group t) (array_in array.now) }
+    ensures { words.new ≡ track (C.line code.now) (address group t) (array_in array.now) }
 {
     let mut state = State::Zero;
     for b in 0..128 {

@@ -1,5 +1,5 @@
 ghost use Rattle.std.specs.Prelude.{◌≡◌, ℕ, ◌+◌, ◌/◌, ◌<◌, length, None, MatchOption, MatchResult, OnOk, slice_index, slice_index_or};
-ghost use Rattle.channel.specs.Codes.{Narrow, Apart, Wide, Shared, Inverse, free, plain_encode, plain_decode, sheet_encode, sheet_decode};
+ghost use Rattle.channel.specs.Codes.{Narrow, Apart, Wide, Shared, Inverse, free, plain_decode, plain_line, sheet_line};
 ghost use Rattle.channel.specs.Faults.{SheetVerdict};
 ghost use Rattle.channel.specs.Stand.{GoodSheetsServe, DecodesNoMore, SharedWordsServeNever, OneVerdict};
 ghost use Rattle.channel.specs.Served.{ServesAs};
@@ -13,7 +13,7 @@ const LARGEST: u32 = 2047;
 impl CheckedSheet {
     /// A checked sheet that is the plain code.
     pub fn new() -> CheckedSheet
-        ensures { ServesAs result plain_encode plain_decode }
+        ensures { ServesAs result plain_line }
     {
         CheckedSheet {
             numbers: plain_numbers(),
@@ -27,7 +27,7 @@ impl CheckedSheet {
 pub fn check(raw: &RawSheet, into: &mut CheckedSheet) -> Result<(), SheetFault>
     ensures answer { SheetVerdict raw.now.numbers.now result }
     ensures held { MatchResult result (λ _. into.new.numbers ≡ raw.now.numbers.now) (λ _. into.new ≡ into.old) }
-    ensures code { OnOk result (ServesAs into.new (sheet_encode raw.now.numbers.now) (sheet_decode raw.now.numbers.now)) }
+    ensures code { OnOk result (ServesAs into.new (sheet_line raw.now.numbers.now)) }
 {
     if raw.numbers.len() != NUMBERS {
         return Err(SheetFault::WrongCount);

@@ -1,5 +1,4 @@
 ghost use Rattle.std.specs.Prelude.{◌≡◌, ℕ, ◌*◌, ◌<◌, ◌≤◌, length, replicate};
-ghost use Rattle.layout.specs.Line.{code_of};
 ghost use Rattle.calls.specs.Laying.{desk, taped};
 ghost use Rattle.calls.specs.Declines.{outcome, reaches};
 ghost use Rattle.calls.specs.Calls.{cleared, admits, close_answer, closed_on};
@@ -33,7 +32,7 @@ impl Ledger {
         requires bench { length bench.old ≡ 138048 }
         requires buffer { length buffer.old ≡ 4608 }
         ensures group { group.new ≡ replicate (length group.old) 0 }
-        ensures tape { T.Playable.tracks tape.new ≡ taped (code_of (C.LineCode.encode code.now) (C.LineCode.decode code.now)) last (desk (record { book = book_of self.now; group = group.old }) (T.Playable.tracks tape.old)) }
+        ensures tape { T.Playable.tracks tape.new ≡ taped (C.line code.now) last (desk (record { book = book_of self.now; group = group.old }) (T.Playable.tracks tape.old)) }
         ensures kept { T.Recordable.rest tape.new ≡ T.Recordable.rest tape.old }
     {
         let _ = complete_group(
@@ -64,7 +63,7 @@ impl Ledger {
         requires bench { length bench.old ≡ 138048 }
         requires buffer { length buffer.old ≡ 4608 }
         ensures answer { result ≡ reaches (length (T.Playable.tracks tape.old)) (book_of self.now) }
-        ensures tape { T.Playable.tracks tape.new ≡ outcome result (taped (code_of (C.LineCode.encode code.now) (C.LineCode.decode code.now)) 1 (desk (record { book = book_of self.now; group = group.old }) (T.Playable.tracks tape.old))) (T.Playable.tracks tape.old) }
+        ensures tape { T.Playable.tracks tape.new ≡ outcome result (taped (C.line code.now) 1 (desk (record { book = book_of self.now; group = group.old }) (T.Playable.tracks tape.old))) (T.Playable.tracks tape.old) }
         ensures kept { T.Recordable.rest tape.new ≡ T.Recordable.rest tape.old }
     {
         self.test_tape(tape.length())?;
@@ -82,7 +81,7 @@ impl Ledger {
         buffer: &mut [u16],
     ) -> Result<(), Decline>
         ensures answer { result ≡ close_answer (record { track = length buffer.old; bench = length bench.old }) (desk (record { book = book_of self.now; group = group.old }) (T.Playable.tracks tape.old)) }
-        ensures tape { T.Playable.tracks tape.new ≡ closed_on (code_of (C.LineCode.encode code.now) (C.LineCode.decode code.now)) (record { track = length buffer.old; bench = length bench.old }) (desk (record { book = book_of self.now; group = group.old }) (T.Playable.tracks tape.old)) }
+        ensures tape { T.Playable.tracks tape.new ≡ closed_on (C.line code.now) (record { track = length buffer.old; bench = length bench.old }) (desk (record { book = book_of self.now; group = group.old }) (T.Playable.tracks tape.old)) }
         ensures kept { T.Recordable.rest tape.new ≡ T.Recordable.rest tape.old }
         ensures group { length group.new ≡ length group.old }
         ensures bench { bench.new ≡ cleared (admits (record { track = length buffer.old; bench = length bench.old }) (desk (record { book = book_of self.now; group = group.old }) (T.Playable.tracks tape.old))) bench.old }

@@ -1,5 +1,4 @@
 ghost use Rattle.std.specs.Prelude.{◌≡◌, length};
-ghost use Rattle.layout.specs.Line.{code_of};
 ghost use Rattle.calls.specs.Laying.{desk};
 ghost use Rattle.calls.specs.Lists.{answer_to, done_to, answers_to, done_all};
 ghost use Rattle.std.specs.List.{AllByRecursion};
@@ -32,7 +31,7 @@ impl<'a> OpenRecording<'a> {
         buffer: &mut [u16],
     ) -> Result<(), Decline>
         ensures answer { result ≡ answer_to (record { track = length buffer.old; bench = length bench.old }) (call_of call.entry) (desk (held_in self.old) (T.Playable.tracks tape.old)) }
-        ensures desk { desk (held_in self.new) (T.Playable.tracks tape.new) ≡ done_to (code_of (C.LineCode.encode code.now) (C.LineCode.decode code.now)) (record { track = length buffer.old; bench = length bench.old }) (call_of call.entry) (desk (held_in self.old) (T.Playable.tracks tape.old)) }
+        ensures desk { desk (held_in self.new) (T.Playable.tracks tape.new) ≡ done_to (C.line code.now) (record { track = length buffer.old; bench = length bench.old }) (call_of call.entry) (desk (held_in self.old) (T.Playable.tracks tape.old)) }
         ensures kept { T.Recordable.rest tape.new ≡ T.Recordable.rest tape.old }
         ensures bench { bench.new ≡ spent (record { track = length buffer.old; bench = length bench.old }) (call_of call.entry) (desk (held_in self.old) (T.Playable.tracks tape.old)) bench.old }
         ensures buffer { buffer.new ≡ spent (record { track = length buffer.old; bench = length bench.old }) (call_of call.entry) (desk (held_in self.old) (T.Playable.tracks tape.old)) buffer.old }
@@ -58,12 +57,12 @@ impl<'a> OpenRecording<'a> {
         bench: &mut [u8],
         buffer: &mut [u16],
     )
-        ensures desk { desk (held_in self.new) (T.Playable.tracks tape.new) ≡ done_all (code_of (C.LineCode.encode code.now) (C.LineCode.decode code.now)) (record { track = length buffer.old; bench = length bench.old }) (calls_of list.old) (desk (held_in self.old) (T.Playable.tracks tape.old)) }
+        ensures desk { desk (held_in self.new) (T.Playable.tracks tape.new) ≡ done_all (C.line code.now) (record { track = length buffer.old; bench = length bench.old }) (calls_of list.old) (desk (held_in self.old) (T.Playable.tracks tape.old)) }
         ensures calls { calls_of list.new ≡ calls_of list.old }
-        ensures answers { answers_of list.new ≡ answers_to (code_of (C.LineCode.encode code.now) (C.LineCode.decode code.now)) (record { track = length buffer.old; bench = length bench.old }) (calls_of list.old) (desk (held_in self.old) (T.Playable.tracks tape.old)) }
+        ensures answers { answers_of list.new ≡ answers_to (C.line code.now) (record { track = length buffer.old; bench = length bench.old }) (calls_of list.old) (desk (held_in self.old) (T.Playable.tracks tape.old)) }
         ensures kept { T.Recordable.rest tape.new ≡ T.Recordable.rest tape.old }
-        ensures bench { bench.new ≡ spent_all (code_of (C.LineCode.encode code.now) (C.LineCode.decode code.now)) (record { track = length buffer.old; bench = length bench.old }) (calls_of list.old) (desk (held_in self.old) (T.Playable.tracks tape.old)) bench.old }
-        ensures buffer { buffer.new ≡ spent_all (code_of (C.LineCode.encode code.now) (C.LineCode.decode code.now)) (record { track = length buffer.old; bench = length bench.old }) (calls_of list.old) (desk (held_in self.old) (T.Playable.tracks tape.old)) buffer.old }
+        ensures bench { bench.new ≡ spent_all (C.line code.now) (record { track = length buffer.old; bench = length bench.old }) (calls_of list.old) (desk (held_in self.old) (T.Playable.tracks tape.old)) bench.old }
+        ensures buffer { buffer.new ≡ spent_all (C.line code.now) (record { track = length buffer.old; bench = length bench.old }) (calls_of list.old) (desk (held_in self.old) (T.Playable.tracks tape.old)) buffer.old }
         ensures same { self.new.group.ghost_name ≡ self.old.group.ghost_name }
         ensures sends { AllByRecursion Sends (calls_of list.old) }
     {

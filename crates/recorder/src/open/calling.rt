@@ -1,5 +1,4 @@
 ghost use Rattle.std.specs.Prelude.{◌≡◌, ℕ, ◌<◌, length, replicate};
-ghost use Rattle.layout.specs.Line.{code_of};
 ghost use Rattle.calls.specs.Declines.{and_then, outcome, reaches, recordable, markable};
 ghost use Rattle.calls.specs.Laying.{desk, lay_record, lay_mark};
 ghost use Rattle.calls.specs.Calls.{cleared, admits, record_answer, recorded, mark_answer, marked, warn_answer, warned, close_answer, closed_on, groups_stored};
@@ -40,7 +39,7 @@ impl<'a> OpenRecording<'a> {
         requires bench { length bench.old ≡ 138048 }
         requires buffer { length buffer.old ≡ 4608 }
         ensures answer { result ≡ and_then (reaches (length (T.Playable.tracks tape.old)) (book_of self.old.ledger)) (recordable (length bytes.now) (book_of self.old.ledger)) }
-        ensures desk { desk (held_in self.new) (T.Playable.tracks tape.new) ≡ outcome result (lay_record (code_of (C.LineCode.encode code.now) (C.LineCode.decode code.now)) bytes.now (desk (held_in self.old) (T.Playable.tracks tape.old))) (desk (held_in self.old) (T.Playable.tracks tape.old)) }
+        ensures desk { desk (held_in self.new) (T.Playable.tracks tape.new) ≡ outcome result (lay_record (C.line code.now) bytes.now (desk (held_in self.old) (T.Playable.tracks tape.old))) (desk (held_in self.old) (T.Playable.tracks tape.old)) }
         ensures kept { T.Recordable.rest tape.new ≡ T.Recordable.rest tape.old }
         ensures same { self.new.group.ghost_name ≡ self.old.group.ghost_name }
     {
@@ -59,7 +58,7 @@ impl<'a> OpenRecording<'a> {
         buffer: &mut [u16],
     ) -> Result<(), Decline>
         ensures answer { result ≡ record_answer (record { track = length buffer.old; bench = length bench.old }) bytes.now (desk (held_in self.old) (T.Playable.tracks tape.old)) }
-        ensures desk { desk (held_in self.new) (T.Playable.tracks tape.new) ≡ recorded (code_of (C.LineCode.encode code.now) (C.LineCode.decode code.now)) (record { track = length buffer.old; bench = length bench.old }) bytes.now (desk (held_in self.old) (T.Playable.tracks tape.old)) }
+        ensures desk { desk (held_in self.new) (T.Playable.tracks tape.new) ≡ recorded (C.line code.now) (record { track = length buffer.old; bench = length bench.old }) bytes.now (desk (held_in self.old) (T.Playable.tracks tape.old)) }
         ensures kept { T.Recordable.rest tape.new ≡ T.Recordable.rest tape.old }
         ensures bench { bench.new ≡ cleared (admits (record { track = length buffer.old; bench = length bench.old }) (desk (held_in self.old) (T.Playable.tracks tape.old))) bench.old }
         ensures buffer { buffer.new ≡ cleared (admits (record { track = length buffer.old; bench = length bench.old }) (desk (held_in self.old) (T.Playable.tracks tape.old))) buffer.old }
@@ -89,7 +88,7 @@ impl<'a> OpenRecording<'a> {
         requires bench { length bench.old ≡ 138048 }
         requires buffer { length buffer.old ≡ 4608 }
         ensures answer { result ≡ and_then (reaches (length (T.Playable.tracks tape.old)) (book_of self.old.ledger)) (markable kind (book_of self.old.ledger)) }
-        ensures desk { desk (held_in self.new) (T.Playable.tracks tape.new) ≡ outcome result (lay_mark (code_of (C.LineCode.encode code.now) (C.LineCode.decode code.now)) kind (desk (held_in self.old) (T.Playable.tracks tape.old))) (desk (held_in self.old) (T.Playable.tracks tape.old)) }
+        ensures desk { desk (held_in self.new) (T.Playable.tracks tape.new) ≡ outcome result (lay_mark (C.line code.now) kind (desk (held_in self.old) (T.Playable.tracks tape.old))) (desk (held_in self.old) (T.Playable.tracks tape.old)) }
         ensures kept { T.Recordable.rest tape.new ≡ T.Recordable.rest tape.old }
         ensures same { self.new.group.ghost_name ≡ self.old.group.ghost_name }
     {
@@ -108,7 +107,7 @@ impl<'a> OpenRecording<'a> {
         buffer: &mut [u16],
     ) -> Result<(), Decline>
         ensures answer { result ≡ mark_answer (record { track = length buffer.old; bench = length bench.old }) kind (desk (held_in self.old) (T.Playable.tracks tape.old)) }
-        ensures desk { desk (held_in self.new) (T.Playable.tracks tape.new) ≡ marked (code_of (C.LineCode.encode code.now) (C.LineCode.decode code.now)) (record { track = length buffer.old; bench = length bench.old }) kind (desk (held_in self.old) (T.Playable.tracks tape.old)) }
+        ensures desk { desk (held_in self.new) (T.Playable.tracks tape.new) ≡ marked (C.line code.now) (record { track = length buffer.old; bench = length bench.old }) kind (desk (held_in self.old) (T.Playable.tracks tape.old)) }
         ensures kept { T.Recordable.rest tape.new ≡ T.Recordable.rest tape.old }
         ensures bench { bench.new ≡ cleared (admits (record { track = length buffer.old; bench = length bench.old }) (desk (held_in self.old) (T.Playable.tracks tape.old))) bench.old }
         ensures buffer { buffer.new ≡ cleared (admits (record { track = length buffer.old; bench = length bench.old }) (desk (held_in self.old) (T.Playable.tracks tape.old))) buffer.old }
@@ -134,7 +133,7 @@ impl<'a> OpenRecording<'a> {
         ensures answer { result.decline ≡ decline_of (close_answer (record { track = length buffer.old; bench = length bench.old }) (desk (held_in self.entry) (T.Playable.tracks tape.old))) }
         ensures groups { result.groups ≡ groups_stored (record { track = length buffer.old; bench = length bench.old }) (desk (held_in self.entry) (T.Playable.tracks tape.old)) }
         ensures items { result.items ≡ (held_in self.entry).book.counts.items }
-        ensures tape { T.Playable.tracks tape.new ≡ closed_on (code_of (C.LineCode.encode code.now) (C.LineCode.decode code.now)) (record { track = length buffer.old; bench = length bench.old }) (desk (held_in self.entry) (T.Playable.tracks tape.old)) }
+        ensures tape { T.Playable.tracks tape.new ≡ closed_on (C.line code.now) (record { track = length buffer.old; bench = length bench.old }) (desk (held_in self.entry) (T.Playable.tracks tape.old)) }
         ensures group { self.exit.0.now ≡ replicate (length self.entry.group.now) 0 }
         ensures kept { T.Recordable.rest tape.new ≡ T.Recordable.rest tape.old }
         ensures bench { bench.new ≡ cleared (admits (record { track = length buffer.old; bench = length bench.old }) (desk (held_in self.entry) (T.Playable.tracks tape.old))) bench.old }

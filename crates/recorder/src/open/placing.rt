@@ -1,5 +1,4 @@
 ghost use Rattle.std.specs.Prelude.{◌≡◌, ℕ, ◌+◌, ◌-◌, ◌*◌, ◌<◌, ◌≤◌, length};
-ghost use Rattle.layout.specs.Line.{code_of};
 ghost use Rattle.calls.specs.Held.{free, roomed, rest_ends, record_ends, mark_ends};
 ghost use Rattle.recorder.specs.Views.{book_of, held_in};
 ghost use Rattle.calls.specs.Laying.{desk, laid, stored_on, put_part, room, lay_mark, lay_rest, lay_record};
@@ -43,7 +42,7 @@ impl<'a> OpenRecording<'a> {
         requires bench { length bench.old ≡ 138048 }
         requires buffer { length buffer.old ≡ 4608 }
         requires next { self.old.ledger.number < self.old.ledger.limit }
-        ensures desk { desk (held_in self.new) (T.Playable.tracks tape.new) ≡ stored_on (code_of (C.LineCode.encode code.now) (C.LineCode.decode code.now)) (desk (held_in self.old) (T.Playable.tracks tape.old)) }
+        ensures desk { desk (held_in self.new) (T.Playable.tracks tape.new) ≡ stored_on (C.line code.now) (desk (held_in self.old) (T.Playable.tracks tape.old)) }
         ensures size { length self.new.group.now ≡ 126632 }
         ensures tape { length (T.Playable.tracks tape.new) ≡ length (T.Playable.tracks tape.old) }
         ensures kept { T.Recordable.rest tape.new ≡ T.Recordable.rest tape.old }
@@ -70,7 +69,7 @@ impl<'a> OpenRecording<'a> {
         requires bench { length bench.old ≡ 138048 }
         requires buffer { length buffer.old ≡ 4608 }
         requires next { (roomed need (book_of self.old.ledger)).number ≤ self.old.ledger.limit }
-        ensures desk { desk (held_in self.new) (T.Playable.tracks tape.new) ≡ room (code_of (C.LineCode.encode code.now) (C.LineCode.decode code.now)) need (desk (held_in self.old) (T.Playable.tracks tape.old)) }
+        ensures desk { desk (held_in self.new) (T.Playable.tracks tape.new) ≡ room (C.line code.now) need (desk (held_in self.old) (T.Playable.tracks tape.old)) }
         ensures size { length self.new.group.now ≡ 126632 }
         ensures tape { length (T.Playable.tracks tape.new) ≡ length (T.Playable.tracks tape.old) }
         ensures kept { T.Recordable.rest tape.new ≡ T.Recordable.rest tape.old }
@@ -99,7 +98,7 @@ impl<'a> OpenRecording<'a> {
         requires buffer { length buffer.old ≡ 4608 }
         requires room { self.old.ledger.fill.used + length part.now + 4 * (self.old.ledger.fill.entries + 1) ≤ 126596 }
         requires next { self.old.ledger.number < self.old.ledger.limit }
-        ensures desk { desk (held_in self.new) (T.Playable.tracks tape.new) ≡ stored_on (code_of (C.LineCode.encode code.now) (C.LineCode.decode code.now)) (put_part kind part.now (desk (held_in self.old) (T.Playable.tracks tape.old))) }
+        ensures desk { desk (held_in self.new) (T.Playable.tracks tape.new) ≡ stored_on (C.line code.now) (put_part kind part.now (desk (held_in self.old) (T.Playable.tracks tape.old))) }
         ensures size { length self.new.group.now ≡ 126632 }
         ensures tape { length (T.Playable.tracks tape.new) ≡ length (T.Playable.tracks tape.old) }
         ensures kept { T.Recordable.rest tape.new ≡ T.Recordable.rest tape.old }
@@ -126,7 +125,7 @@ impl<'a> OpenRecording<'a> {
         requires buffer { length buffer.old ≡ 4608 }
         requires kind { 1 ≤ kind }
         requires next { mark_ends (book_of self.old.ledger) ≤ self.old.ledger.limit }
-        ensures desk { desk (held_in self.new) (T.Playable.tracks tape.new) ≡ lay_mark (code_of (C.LineCode.encode code.now) (C.LineCode.decode code.now)) kind (desk (held_in self.old) (T.Playable.tracks tape.old)) }
+        ensures desk { desk (held_in self.new) (T.Playable.tracks tape.new) ≡ lay_mark (C.line code.now) kind (desk (held_in self.old) (T.Playable.tracks tape.old)) }
         ensures size { length self.new.group.now ≡ 126632 }
         ensures tape { length (T.Playable.tracks tape.new) ≡ length (T.Playable.tracks tape.old) }
         ensures kept { T.Recordable.rest tape.new ≡ T.Recordable.rest tape.old }
@@ -156,7 +155,7 @@ impl<'a> OpenRecording<'a> {
         requires some { 1 ≤ length rest.now }
         requires few { length rest.now ≤ 16777215 }
         requires next { rest_ends self.old.ledger.number (length rest.now) ≤ self.old.ledger.limit }
-        ensures desk { desk (held_in self.new) (T.Playable.tracks tape.new) ≡ lay_rest (code_of (C.LineCode.encode code.now) (C.LineCode.decode code.now)) (length rest.now) total rest.now (desk (held_in self.old) (T.Playable.tracks tape.old)) }
+        ensures desk { desk (held_in self.new) (T.Playable.tracks tape.new) ≡ lay_rest (C.line code.now) (length rest.now) total rest.now (desk (held_in self.old) (T.Playable.tracks tape.old)) }
         ensures size { length self.new.group.now ≡ 126632 }
         ensures tape { length (T.Playable.tracks tape.new) ≡ length (T.Playable.tracks tape.old) }
         ensures kept { T.Recordable.rest tape.new ≡ T.Recordable.rest tape.old }
@@ -191,7 +190,7 @@ impl<'a> OpenRecording<'a> {
         requires some { 1 ≤ length bytes.now }
         requires few { length bytes.now ≤ 16777215 }
         requires next { record_ends (length bytes.now) (book_of self.old.ledger) ≤ self.old.ledger.limit }
-        ensures desk { desk (held_in self.new) (T.Playable.tracks tape.new) ≡ lay_record (code_of (C.LineCode.encode code.now) (C.LineCode.decode code.now)) bytes.now (desk (held_in self.old) (T.Playable.tracks tape.old)) }
+        ensures desk { desk (held_in self.new) (T.Playable.tracks tape.new) ≡ lay_record (C.line code.now) bytes.now (desk (held_in self.old) (T.Playable.tracks tape.old)) }
         ensures size { length self.new.group.now ≡ 126632 }
         ensures tape { length (T.Playable.tracks tape.new) ≡ length (T.Playable.tracks tape.old) }
         ensures kept { T.Recordable.rest tape.new ≡ T.Recordable.rest tape.old }

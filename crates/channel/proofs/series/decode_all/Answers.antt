@@ -7,7 +7,7 @@ use Rattle.channel.proofs.series.decode_all.Goals as goal
 
 pub loop-i-preserved : goal.loop-i-preserved
 loop-i-preserved g c =
-    let k = g.C.LineCode.decode c.args.code.now in
+    let k = (g.C.LineCode.line c.args.code.now).decode in
     let ws = c.args.words.now in
     let i = c.loop-i.i in
     let e = c.byte_or_zero-byte.ensures in
@@ -21,7 +21,7 @@ loop-i-preserved g c =
 
 pub returns : goal.returns
 returns g c =
-    let k = g.C.LineCode.decode c.args.code.now in
+    let k = (g.C.LineCode.line c.args.code.now).decode in
     let ws = c.args.words.now in
     let l = c.loop-i-test.false in
     let p = eq-eqb (length c.args.bytes.now) (length ws) c.if-bytes-words.false in

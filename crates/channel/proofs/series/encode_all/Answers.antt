@@ -6,7 +6,7 @@ use Rattle.channel.proofs.series.encode_all.Goals as goal
 
 pub loop-i-preserved : goal.loop-i-preserved
 loop-i-preserved g c =
-    let f = g.C.LineCode.encode c.args.code.now in
+    let f = (g.C.LineCode.line c.args.code.now).encode in
     let bs = c.args.bytes.now in
     let i = c.loop-i.i in
     let r = c.encode-word.result in
@@ -18,7 +18,7 @@ loop-i-preserved g c =
 
 pub returns : goal.returns
 returns g c =
-    let f = g.C.LineCode.encode c.args.code.now in
+    let f = (g.C.LineCode.line c.args.code.now).encode in
     let bs = c.args.bytes.now in
     let t = eq-eqb (length bs) (length c.args.words.now) c.if-bytes-words.false in
     record {

@@ -1,8 +1,7 @@
 use Rattle.std.proofs.Common.{◌+◌, ◌*◌}
 use Rattle.layout.specs.Group.{address}
-use Rattle.layout.specs.Line.{code_of}
 use Rattle.reading.specs.Arrays.{at, Taken}
 use Rattle.reading.proofs.decoding.take_block.Given as goal
 
 abbrev pub invariant-loop-s : goal.invariant-loop-s
-invariant-loop-s g l = Taken (code_of (g.C.LineCode.encode l.code) (g.C.LineCode.decode l.code)) (address l.group l.t) (at l.words) l.array l.lost (32 * l.b + l.s)
+invariant-loop-s g l = Taken (g.C.LineCode.line l.code) (address l.group l.t) (at l.words) l.array l.lost (32 * l.b + l.s)

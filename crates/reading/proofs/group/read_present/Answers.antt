@@ -1,6 +1,5 @@
 use Rattle.std.proofs.Common.{◌≡◌, ℕ, length, replicate, sym, ap, ◌∙◌, ap₂, arith, rules}
 use Rattle.layout.specs.Group.{group_read}
-use Rattle.layout.specs.Line.{code_of}
 use Rattle.layout.specs.Reading.{Outcome}
 use Rattle.reading.specs.Groups.{outcomes, answer_of, group_after}
 use Rattle.reading.proofs.WholeGroup.{found-is, sheet-is, zero-front}
@@ -21,7 +20,7 @@ read_tracks-requires g c =
 pub returns : goal.returns
 unfolding group_read
 returns g c =
-    let o : ℕ → Outcome = outcomes (code_of (g.C.LineCode.encode c.args.code.now) (g.C.LineCode.decode c.args.code.now)) c.args.number (g.T.Playable.tracks c.args.tape.now) in
+    let o : ℕ → Outcome = outcomes (g.C.LineCode.line c.args.code.now) c.args.number (g.T.Playable.tracks c.args.tape.now) in
     let f = found-is c.args.settings.tap c.args.settings.start o c.read_tracks.new.sheet.rows c.read_tracks.new.rows c.read_tracks.ensures in
     let s = sheet-is o c.read_tracks.new.sheet.rows c.read_tracks.new.rows c.read_tracks.ensures in
     record {

@@ -1,7 +1,6 @@
 use Rattle.std.proofs.Common.{◌≡◌, ℕ, ◌+◌, ◌-◌, ◌*◌, set, sym, ◌∙◌, subst, arith}
 use borrow.Rule.Slice.PartMut.{put_mid}
 use Rattle.std.proofs.lemmas.Bool.{cond-true, lt-ltb}
-use Rattle.layout.specs.Line.{code_of}
 use Rattle.layout.specs.Reading.{Outcome}
 use Rattle.reading.specs.Groups.{outcomes, Holds}
 use Rattle.reading.proofs.WholeGroup.{holds_more}
@@ -9,7 +8,7 @@ use Rattle.reading.proofs.group.read_tracks.Goals as goal
 
 pub loop-t-preserved : goal.loop-t-preserved
 loop-t-preserved g c =
-    let o : ℕ → Outcome = outcomes (code_of (g.C.LineCode.encode c.args.code.now) (g.C.LineCode.decode c.args.code.now)) c.args.number (g.T.Playable.tracks c.args.tape.now) in
+    let o : ℕ → Outcome = outcomes (g.C.LineCode.line c.args.code.now) c.args.number (g.T.Playable.tracks c.args.tape.now) in
     let e : c.put.new.self.rows ≡ set c.loop-t.sheet.rows c.loop-t.t c.read_one-finding.result = c.put.ensures ∙ cond-true _ _ _ (lt-ltb c.loop-t.t 46 c.loop-t-test.true) in
     let n : ℕ = 2912 * c.loop-t.t + 2912 - 2912 * c.loop-t.t in
     subst (λ s. Holds o (put_mid (2912 * c.loop-t.t) n c.loop-t.rows c.read_one-finding.new.row) s (c.loop-t.t + 1)) (sym e)

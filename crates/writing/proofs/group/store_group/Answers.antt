@@ -1,4 +1,3 @@
-use Rattle.layout.specs.Line.{code_of}
 use Rattle.writing.proofs.GroupMade.{group-made}
 use Rattle.writing.proofs.group.store_group.Goals as goal
 
@@ -9,6 +8,6 @@ returns g c =
       tape =
           group-made c.args.settings.tap c.args.settings.start c.args.group.now c.make_rows.new.bench c.split_at_mut-rows.result.0.now
           c.split_at_mut-rows.result.1.now c.split_at_mut-rows.ensures.value c.split_at_mut-rows.ensures.front_len c.make_rows.ensures
-          (code_of (g.C.LineCode.encode c.args.code.now) (g.C.LineCode.decode c.args.code.now)) c.args.number (g.T.Playable.tracks c.args.tape.now)
+          (g.C.LineCode.line c.args.code.now) c.args.number (g.T.Playable.tracks c.args.tape.now)
           (g.T.Playable.tracks c.store_rows.new.tape) c.store_rows.ensures.tape;
     }

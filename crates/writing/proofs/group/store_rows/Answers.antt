@@ -1,6 +1,6 @@
 use Rattle.std.proofs.Common.{◌≡◌, ℕ, ◌+◌, ◌-◌, ◌*◌, List, length, take, drop, set, Some, refl, ap, ◌∙◌, arith, length-drop, length-take}
 use Rattle.layout.specs.Group.{address}
-use Rattle.layout.specs.Line.{code_of, track}
+use Rattle.layout.specs.Line.{track}
 use Rattle.layout.specs.Writing.{array_of}
 use Rattle.writing.specs.Rows.{row_in}
 use Rattle.writing.proofs.TapeSteps.{tracks-none, tracks-more, tracks-all}
@@ -24,7 +24,7 @@ store_track-requires g c =
 
 pub loop-t-init : goal.loop-t-init
 loop-t-init g c = (
-  tracks-none (λ t. track (code_of (g.C.LineCode.encode c.args.code.now) (g.C.LineCode.decode c.args.code.now)) (address c.args.number t) (array_of (row_in c.args.rows.now t)))
+  tracks-none (λ t. track (g.C.LineCode.line c.args.code.now) (address c.args.number t) (array_of (row_in c.args.rows.now t)))
       (46 * (c.args.number - 1)) (g.T.Playable.tracks c.args.tape.now),
   refl,
   c.requires.array_len,
@@ -33,7 +33,7 @@ loop-t-init g c = (
 
 pub loop-t-preserved : goal.loop-t-preserved
 loop-t-preserved g c =
-    let k = code_of (g.C.LineCode.encode c.args.code.now) (g.C.LineCode.decode c.args.code.now) in
+    let k = g.C.LineCode.line c.args.code.now in
     let f : ℕ → List ℕ = λ t. track k (address c.args.number t) (array_of (row_in c.args.rows.now t)) in
     let base : ℕ = 46 * (c.args.number - 1) in
     let t = c.loop-t.t in
@@ -52,6 +52,6 @@ returns g c =
     record {
       kept = c.loop-t.invariant.1;
       tape =
-          tracks-all (λ t. track (code_of (g.C.LineCode.encode c.args.code.now) (g.C.LineCode.decode c.args.code.now)) (address c.args.number t) (array_of (row_in c.args.rows.now t)))
+          tracks-all (λ t. track (g.C.LineCode.line c.args.code.now) (address c.args.number t) (array_of (row_in c.args.rows.now t)))
           c.args.number (g.T.Playable.tracks c.args.tape.now) (g.T.Playable.tracks c.loop-t.tape) c.loop-t.t (omega arith) c.loop-t.invariant.0;
     }

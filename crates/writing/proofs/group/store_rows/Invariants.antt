@@ -1,6 +1,6 @@
 use Rattle.std.proofs.Common.{◌≡◌, ◌-◌, ◌*◌, length}
 use Rattle.layout.specs.Group.{address}
-use Rattle.layout.specs.Line.{code_of, track}
+use Rattle.layout.specs.Line.{track}
 use Rattle.layout.specs.Writing.{array_of}
 use Rattle.writing.specs.Rows.{row_in}
 use Rattle.writing.proofs.TapeSteps.{TracksTo}
@@ -8,7 +8,7 @@ use Rattle.writing.proofs.group.store_rows.Given as goal
 
 abbrev pub invariant-loop-t : goal.invariant-loop-t
 invariant-loop-t g l =
-    TracksTo (λ t. track (code_of (g.C.LineCode.encode l.code) (g.C.LineCode.decode l.code)) (address l.number t) (array_of (row_in l.rows t))) (46 * (l.number - 1))
+    TracksTo (λ t. track (g.C.LineCode.line l.code) (address l.number t) (array_of (row_in l.rows t))) (46 * (l.number - 1))
     (g.T.Playable.tracks l.initial.tape) (g.T.Playable.tracks l.tape) l.t
     × (g.T.Recordable.rest l.tape ≡ g.T.Recordable.rest l.initial.tape)
     × (length l.array ≡ 4096)

@@ -1,7 +1,8 @@
 use Rattle.std.proofs.Common.{ℕ, ◌+◌, ◌-◌, ◌*◌, ◌<◌, length, get_or, set, Some, ap, ◌∙◌, arith, rules}
 use Rattle.tape.specs.Tape.{stored}
 use Rattle.layout.specs.Group.{address}
-use Rattle.layout.specs.Line.{code_of, Lawful, Valid}
+use Rattle.channel.specs.Line.{Lawful}
+use Rattle.layout.specs.Line.{Valid}
 use Rattle.layout.specs.Writing.{array_of}
 use Rattle.writing.specs.Arrays.{array_in}
 use Rattle.writing.proofs.Tracks.{track-same, track-stored}
@@ -9,7 +10,7 @@ use Rattle.writing.proofs.group.store_track.Goals as goal
 
 pub returns : goal.returns
 returns g c =
-    let k = code_of (g.C.LineCode.encode c.args.code.now) (g.C.LineCode.decode c.args.code.now) in
+    let k = g.C.LineCode.line c.args.code.now in
     let code = c.args.code.now in
     let t = address c.args.number c.args.t in
     let x = array_in c.make_array.new.array in

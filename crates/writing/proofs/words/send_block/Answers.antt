@@ -1,14 +1,13 @@
 use Rattle.std.proofs.Common.{◌+◌, ◌*◌, refl, ap, ◌∙◌, arith, lit<}
 use lib.Bits.{bit_xor}
 use Rattle.layout.specs.Group.{address}
-use Rattle.layout.specs.Line.{code_of}
 use Rattle.writing.specs.Arrays.{array_in}
 use Rattle.writing.proofs.Sending.{sent-sync, sent-at, at_one, at-two, at-three, at_byte}
 use Rattle.writing.proofs.words.send_block.Goals as goal
 
 pub loop-s-init : goal.loop-s-init
 loop-s-init g c =
-    let k = code_of (g.C.LineCode.encode c.args.code.now) (g.C.LineCode.decode c.args.code.now) in
+    let k = g.C.LineCode.line c.args.code.now in
     let t = address c.args.group c.args.t in
     let x = array_in c.args.array.now in
     let b = c.args.b in
@@ -22,7 +21,7 @@ loop-s-init g c =
 
 pub loop-s-preserved : goal.loop-s-preserved
 loop-s-preserved g c =
-    let k = code_of (g.C.LineCode.encode c.args.code.now) (g.C.LineCode.decode c.args.code.now) in
+    let k = g.C.LineCode.line c.args.code.now in
     let t = address c.args.group c.args.t in
     let x = array_in c.args.array.now in
     sent-at k t x _ c.send-state-in-loop-s.new.words _ c.send-state-in-loop-s.result c.args.b (4 + c.loop-s.s) (x c.args.b c.loop-s.s) _ _ _

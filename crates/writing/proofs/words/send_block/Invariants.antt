@@ -1,10 +1,9 @@
 use Rattle.std.proofs.Common.{◌+◌, ◌*◌}
 use Rattle.layout.specs.Group.{address}
-use Rattle.layout.specs.Line.{code_of}
 use Rattle.writing.specs.Arrays.{array_in}
 use Rattle.writing.specs.Sending.{Sent}
 use Rattle.writing.proofs.words.send_block.Given as goal
 
 abbrev pub invariant-loop-s : goal.invariant-loop-s
 invariant-loop-s g l =
-    Sent (code_of (g.C.LineCode.encode l.code) (g.C.LineCode.decode l.code)) (address l.group l.t) (array_in l.array) l.words l.state (36 * l.b + (4 + l.s))
+    Sent (g.C.LineCode.line l.code) (address l.group l.t) (array_in l.array) l.words l.state (36 * l.b + (4 + l.s))

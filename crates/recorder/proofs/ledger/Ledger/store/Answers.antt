@@ -1,5 +1,4 @@
 use Rattle.std.proofs.Common.{length, rules}
-use Rattle.layout.specs.Line.{code_of}
 use Rattle.calls.specs.Held.{Held}
 use Rattle.recorder.specs.Views.{book_of}
 use Rattle.recorder.proofs.Desks.{group-taped}
@@ -7,7 +6,7 @@ use Rattle.recorder.proofs.ledger.Ledger.store.Goals as goal
 
 pub returns : goal.returns
 returns g c =
-    let k = code_of (g.C.LineCode.encode c.args.code.now) (g.C.LineCode.decode c.args.code.now) in
+    let k = g.C.LineCode.line c.args.code.now in
     let l = c.args.self.now in
     let h : Held = record { book = book_of l; group = c.args.group.now } in
     let e = c.complete_group.ensures in

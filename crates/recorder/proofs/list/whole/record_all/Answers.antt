@@ -1,5 +1,4 @@
 use Rattle.std.proofs.Common.{◌≡◌, ℕ, List, length, ap, ◌∙◌, ap₂, rules}
-use Rattle.layout.specs.Line.{code_of}
 use Rattle.runs.specs.Run.{Lent}
 use Rattle.calls.specs.Held.{Held}
 use Rattle.calls.specs.Declines.{Answer}
@@ -13,7 +12,7 @@ use Rattle.recorder.proofs.list.whole.record_all.Goals as goal
 
 pub returns : goal.returns
 returns g c =
-    let k = code_of (g.C.LineCode.encode c.args.code.now) (g.C.LineCode.decode c.args.code.now) in
+    let k = g.C.LineCode.line c.args.code.now in
     let lent : ℕ → ℕ → Lent = λ t b. record { track = t; bench = b } in
     let m : Lent = lent (length c.args.buffer.now) (length c.args.bench.now) in
     let n : Lent = lent (length c.call_all.new.buffer) (length c.call_all.new.bench) in

@@ -1,5 +1,4 @@
 use Rattle.std.proofs.Common.{◌≡◌, length, sym, ap, ◌∙◌, subst}
-use Rattle.layout.specs.Line.{code_of}
 use Rattle.laying.specs.Calls.{Call, Call.record', Sends}
 use Rattle.runs.specs.Run.{Lent}
 use Rattle.calls.specs.Laying.{desk}
@@ -10,7 +9,7 @@ use Rattle.recorder.proofs.open.OpenRecording.call.Goals as goal
 
 pub returns-in-Record : goal.returns-in-Record
 returns-in-Record g c =
-    let k = code_of (g.C.LineCode.encode c.args.code.now) (g.C.LineCode.decode c.args.code.now) in
+    let k = g.C.LineCode.line c.args.code.now in
     let m : Lent = record { track = length c.args.buffer.now; bench = length c.args.bench.now } in
     let d = desk (held_in c.args.self.now) (g.T.Playable.tracks c.args.tape.now) in
     let e : record' c.in-Record.bytes.now ≡ call_of c.args.call = sym (ap call_of c.in-Record.is) in

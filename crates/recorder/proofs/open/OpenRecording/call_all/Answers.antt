@@ -1,5 +1,4 @@
 use Rattle.std.proofs.Common.{ℕ, length, ◌∙◌, ap₂, arith}
-use Rattle.layout.specs.Line.{code_of}
 use Rattle.runs.specs.Run.{Lent}
 use Rattle.calls.specs.Laying.{desk}
 use Rattle.recorder.specs.Views.{held_in}
@@ -8,7 +7,7 @@ use Rattle.recorder.proofs.open.OpenRecording.call_all.Goals as goal
 
 pub loop-i-preserved : goal.loop-i-preserved
 loop-i-preserved g c =
-    let k = code_of (g.C.LineCode.encode c.args.code.now) (g.C.LineCode.decode c.args.code.now) in
+    let k = g.C.LineCode.line c.args.code.now in
     let i = c.loop-i.invariant in
     let s = c.call.ensures in
     let lent : ℕ → ℕ → Lent = λ t b. record { track = t; bench = b } in (
@@ -25,7 +24,7 @@ loop-i-preserved g c =
 
 pub returns : goal.returns
 returns g c =
-    let k = code_of (g.C.LineCode.encode c.args.code.now) (g.C.LineCode.decode c.args.code.now) in
+    let k = g.C.LineCode.line c.args.code.now in
     let i = c.loop-i.invariant in
     let e =
     going-ends k (record { track = length c.args.buffer.now; bench = length c.args.bench.now }) c.loop-i.i c.args.list.now c.loop-i.list

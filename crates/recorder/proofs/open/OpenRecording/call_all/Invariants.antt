@@ -1,5 +1,4 @@
 use Rattle.std.proofs.Common.{◌≡◌, length}
-use Rattle.layout.specs.Line.{code_of}
 use Rattle.calls.specs.Laying.{desk}
 use Rattle.recorder.specs.Views.{held_in}
 use Rattle.recorder.proofs.Asking.{Going}
@@ -7,7 +6,7 @@ use Rattle.recorder.proofs.open.OpenRecording.call_all.Given as goal
 
 abbrev pub invariant-loop-i : goal.invariant-loop-i
 invariant-loop-i g l =
-    Going (code_of (g.C.LineCode.encode l.code) (g.C.LineCode.decode l.code))
+    Going (g.C.LineCode.line l.code)
     (record { track = length l.initial.buffer; bench = length l.initial.bench }) l.i l.initial.list l.list
     (desk (held_in l.initial.self) (g.T.Playable.tracks l.initial.tape)) (desk (held_in l.self) (g.T.Playable.tracks l.tape))
     l.initial.bench l.bench l.initial.buffer l.buffer

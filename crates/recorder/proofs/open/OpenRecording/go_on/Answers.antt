@@ -1,6 +1,5 @@
 use Rattle.std.proofs.Common.{length, refl, ap, ◌∙◌}
 use lib.ListN.{length-replicate}
-use Rattle.layout.specs.Line.{code_of}
 use Rattle.recorder.specs.Views.{held_in}
 use Rattle.calls.specs.Laying.{desk}
 use Rattle.recorder.proofs.Desks.{desk-stored, length-taped}
@@ -8,7 +7,7 @@ use Rattle.recorder.proofs.open.OpenRecording.go_on.Goals as goal
 
 pub returns : goal.returns
 returns g c =
-    let k = code_of (g.C.LineCode.encode c.args.code.now) (g.C.LineCode.decode c.args.code.now) in
+    let k = g.C.LineCode.line c.args.code.now in
     let h = held_in c.args.self.now in
     let ts = g.T.Playable.tracks c.args.tape.now in
     let s = c.store.ensures in

@@ -1,5 +1,4 @@
 use Rattle.std.proofs.Common.{◌-◌, ap, ◌∙◌, arith}
-use Rattle.layout.specs.Line.{code_of}
 use Rattle.calls.specs.Laying.{desk}
 use Rattle.recorder.specs.Views.{held_in}
 use Rattle.recorder.proofs.Resting.{parts-laid}
@@ -7,7 +6,7 @@ use Rattle.recorder.proofs.open.OpenRecording.lay_record.Goals as goal
 
 pub returns-else-size-free : goal.returns-else-size-free
 returns-else-size-free g c =
-    let k = code_of (g.C.LineCode.encode c.args.code.now) (g.C.LineCode.decode c.args.code.now) in
+    let k = g.C.LineCode.line c.args.code.now in
     let m = c.make_room.ensures in
     let s = c.store_part.ensures in
     let r = c.lay_rest.ensures in

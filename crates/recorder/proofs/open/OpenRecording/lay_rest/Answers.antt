@@ -1,5 +1,4 @@
 use Rattle.std.proofs.Common.{◌-◌, sym, ap, ◌∙◌, arith}
-use Rattle.layout.specs.Line.{code_of}
 use Rattle.calls.specs.Laying.{desk}
 use Rattle.recorder.specs.Views.{held_in}
 use Rattle.recorder.proofs.Resting.{resting-more, rest-ends}
@@ -8,7 +7,7 @@ use Rattle.recorder.proofs.open.OpenRecording.lay_rest.Goals as goal
 
 pub loop-rest-preserved : goal.loop-rest-preserved
 loop-rest-preserved g c =
-    let k = code_of (g.C.LineCode.encode c.args.code.now) (g.C.LineCode.decode c.args.code.now) in
+    let k = g.C.LineCode.line c.args.code.now in
     let i = c.loop-rest.invariant in
     let s = c.store_part.ensures in (
       resting-more k c.args.total (c.free-part.result - 4) c.args.rest.now c.loop-rest.rest.now _ _ _ i.0
@@ -23,7 +22,7 @@ loop-rest-preserved g c =
 
 pub returns : goal.returns
 returns g c =
-    let k = code_of (g.C.LineCode.encode c.args.code.now) (g.C.LineCode.decode c.args.code.now) in
+    let k = g.C.LineCode.line c.args.code.now in
     let i = c.loop-rest.invariant in
     let r = c.make_room.ensures in
     let rest = c.loop-rest.rest.now in

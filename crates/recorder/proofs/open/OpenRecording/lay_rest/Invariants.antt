@@ -1,5 +1,4 @@
 use Rattle.std.proofs.Common.{◌≡◌, length}
-use Rattle.layout.specs.Line.{code_of}
 use Rattle.calls.specs.Laying.{desk}
 use Rattle.recorder.specs.Views.{held_in}
 use Rattle.recorder.proofs.Resting.{Resting}
@@ -7,7 +6,7 @@ use Rattle.recorder.proofs.open.OpenRecording.lay_rest.Given as goal
 
 abbrev pub invariant-loop-rest : goal.invariant-loop-rest
 invariant-loop-rest g l =
-    Resting (code_of (g.C.LineCode.encode l.code) (g.C.LineCode.decode l.code)) l.total l.initial.rest l.rest
+    Resting (g.C.LineCode.line l.code) l.total l.initial.rest l.rest
     (desk (held_in l.initial.self) (g.T.Playable.tracks l.initial.tape)) (desk (held_in l.self) (g.T.Playable.tracks l.tape))
     × (length l.self.group.now ≡ 126632)
     × (length (g.T.Playable.tracks l.tape) ≡ length (g.T.Playable.tracks l.initial.tape))
