@@ -4,8 +4,8 @@ ghost use Rattle.channel.specs.States.{state_number};
 /// The state that a line code keeps from word to word: zero stands for Q = -1, one for Q = 1.
 #[derive(Clone, Copy, PartialEq, Eq, Debug)]
 pub enum State {
-    Zero,
-    One,
+    Zero = 0,
+    One = 1,
 }
 
 impl State {
@@ -13,9 +13,6 @@ impl State {
     pub fn number(self) -> u8
         ensures { result ≡ state_number self }
     {
-        match self {
-            State::Zero => 0,
-            State::One => 1,
-        }
+        self as u8
     }
 }

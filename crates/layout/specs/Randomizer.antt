@@ -1,5 +1,9 @@
 -- The randomizer: a register of 15 bits whose output is XORed to the bytes of a sub-group.
-use Rattle.std.specs.Prelude.{◌≡◌, ℕ, zero, suc, ◌+◌, ◌*◌, ◌/◌, ◌%◌, ◌<◌, List, [], ◌∷◌, bit_and, bit_xor, count_ones}
+use Rattle.std.specs.Prelude.{◌≡◌, ℕ, zero, suc, ◌+◌, ◌*◌, ◌/◌, ◌%◌, ◌<◌, Bool, ◌&&◌, List, [], ◌∷◌, bit_and, bit_xor, count_ones, nat_le}
+
+-- both settings are below 32,768
+abbrev pub small : ℕ → ℕ → Bool
+small tap start = nat_le tap 32767 && nat_le start 32767
 
 -- one step: the lowest bit goes out, and 16,384 comes in if the register AND the tap has an odd count of ones
 unfoldable pub step : ℕ → ℕ → ℕ

@@ -11,15 +11,15 @@ pub enum Sign {
 /// The channel of a byte in its G3 word.
 #[derive(Clone, Copy, PartialEq, Eq, Debug)]
 pub enum Channel {
-    A,
-    B,
+    A = 0,
+    B = 1,
 }
 
 /// The half of a channel that a byte is.
 #[derive(Clone, Copy, PartialEq, Eq, Debug)]
 pub enum Half {
-    Upper,
-    Lower,
+    Upper = 0,
+    Lower = 1,
 }
 
 impl Channel {
@@ -28,10 +28,7 @@ impl Channel {
         ensures is { result ≡ channel_number self }
         ensures below { result < 2 }
     {
-        match self {
-            Channel::A => 0,
-            Channel::B => 1,
-        }
+        self as usize
     }
 }
 
@@ -41,9 +38,6 @@ impl Half {
         ensures is { result ≡ half_number self }
         ensures below { result < 2 }
     {
-        match self {
-            Half::Upper => 0,
-            Half::Lower => 1,
-        }
+        self as usize
     }
 }

@@ -9,7 +9,7 @@ loop-k-init c = (refl, c.requires)
 
 pub loop-k-preserved : goal.loop-k-preserved
 loop-k-preserved c = (
-  c.step_register-after.ensures.is ∙ ap (step c.args.tap) c.loop-k.invariant.0 ∙ sym (steps-more c.args.tap c.loop-k.k c.args.register)
-      ∙ ap (λ m. steps c.args.tap m c.args.register) (sym (add-one c.loop-k.k)),
-  c.step_register-after.ensures.below,
+  c.step-after.ensures.is ∙ ap (step c.args.tap) c.loop-k.invariant.0 ∙ sym (steps-more c.args.tap c.loop-k.k c.args.bits)
+      ∙ ap (λ m. steps c.args.tap m c.args.bits) (sym (add-one c.loop-k.k)),
+  c.step-after.ensures.below,
 )

@@ -16,7 +16,7 @@ returns g c =
     let x = array_in c.make_array.new.array in
     let ts = g.T.Playable.tracks c.args.tape.now in
     let at : ℕ = 46 * (c.args.number - 1) + c.args.t in
-    let lawful : Lawful k = record { words = g.met.C.LineCode.narrow code; bytes = g.met.C.LineCode.bytes code; law = g.met.C.LineCode.back code } in
+    let lawful : Lawful k = g.met.C.LineCode.lawful code in
     let valid : Valid t = record { frames = omega arith; signs = omega arith } in
     let b : (i : ℕ) → get_or c.make_array.new.array i 0 < 256 = λ i. search rules in
     let l : at < length ts = omega (arith, c.requires.number_nonzero, c.requires.t_bound, c.requires.number_in_bounds) in

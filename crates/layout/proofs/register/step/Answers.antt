@@ -1,6 +1,6 @@
 use Rattle.std.proofs.Common.{refl, arith}
 use Rattle.layout.specs.Randomizer.{step}
-use Rattle.layout.proofs.register.step_register.Goals as goal
+use Rattle.layout.proofs.register.step.Goals as goal
 
 pub returns : goal.returns
 unfolding step
