@@ -2,6 +2,7 @@
 use Rattle.std.proofs.Common.{◌≡◌, ℕ, zero, suc, ◌+◌, ◌-◌, ◌*◌, ◌/◌, ◌%◌, ◌<◌, ◌≤◌, Bool, true, false, cond, ◌&&◌, eqb, List, [], ◌∷◌, ◌++◌, length, get_or, take, drop, set, replicate, Some, None, Option, sym, refl, ap, ◌∙◌, subst, ap₂, inl, inr, arith, length-set, length-take-le, get_or-drop, get_or-set_other, get_or-take, get_or-set_same}
 use lib.ListN.{length-replicate, get_or-replicate}
 use borrow.Rule.Slice.PartMut.{put_mid}
+use Rattle.layout.proofs.Parts.{mid-before, mid-in, mid-after}
 use Rattle.std.proofs.lemmas.List.FromFn.{fill_by_all}
 use Rattle.std.proofs.lemmas.List.{get_or_append_left, get_or-append_right}
 use Rattle.std.proofs.lemmas.Bool.{cases_eq, cases_lt, eq-eqb, cond_both}
@@ -187,26 +188,6 @@ zero-front xs ys n e p =
           | inl l ↦ get_or-replicate n p 0 0 l
           | inr l ↦ past (replicate n 0) p (omega (arith, length-replicate {A = ℕ} n 0))
         ]
-
--- what a write to 2,912 bytes leaves
-module _ (xs ys : List ℕ) (a n : ℕ) (la : a ≤ length xs) (ly : length ys ≡ n) where
-  front : length (take a xs) ≡ a
-  front = length-take-le a xs la
-
-  mid-before : (i : ℕ) → i < a → get_or (put_mid a n xs ys) i 0 ≡ get_or xs i 0
-  mid-before i h = get_or_append_left (take a xs) (ys ++ drop n (drop a xs)) 0 i (omega (arith, front)) ∙ get_or-take a xs i 0 h
-
-  mid-in : (i q : ℕ) → i ≡ q + a → q < n → get_or (put_mid a n xs ys) i 0 ≡ get_or ys q 0
-  mid-in i q e h =
-      let d : i - a ≡ q = omega arith in
-      get_or-append_right (take a xs) (ys ++ drop n (drop a xs)) a i 0 front (omega arith) ∙ ap (λ z. get_or (ys ++ drop n (drop a xs)) z 0) d
-      ∙ get_or_append_left ys (drop n (drop a xs)) 0 q (omega (arith, ly))
-
-  mid-after : (i : ℕ) → a + n ≤ i → get_or (put_mid a n xs ys) i 0 ≡ get_or xs i 0
-  mid-after i h =
-      let d : a + (n + (i - a - n)) ≡ i = omega arith in
-      get_or-append_right (take a xs) (ys ++ drop n (drop a xs)) a i 0 front (omega arith) ∙ get_or-append_right ys (drop n (drop a xs)) n (i - a) 0 ly (omega arith)
-      ∙ get_or-drop n (drop a xs) (i - a - n) 0 ∙ get_or-drop a xs (n + (i - a - n)) 0 ∙ ap (λ z. get_or xs z 0) d
 
 pub holds_more : (o : ℕ → Outcome) (rows ys : List ℕ) (sheet : List LossRow) (t n e : ℕ) (r : LossRow) → t < 46 → length rows ≡ 133952 → n ≡ 2912 → Holds o rows sheet t → r ≡ loss_row (o t)
     → length ys ≡ 2912 → ys ≡ row_after (o t) (take e (drop (2912 * t) rows)) → Holds o (put_mid (2912 * t) n rows ys) (set sheet t r) (t + 1)

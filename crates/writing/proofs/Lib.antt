@@ -1,4 +1,5 @@
 pub mod GroupMade
+pub mod Laid
 pub mod Made
 pub mod Passes
 pub mod RowSteps

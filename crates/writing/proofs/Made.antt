@@ -8,7 +8,7 @@ use Rattle.layout.specs.Words.{Array, c1, c2, c1_block, c1_serial}
 use Rattle.layout.specs.Reading.{filling, byte_at}
 use Rattle.layout.specs.Writing.{c1_checks, c2_checks, laid, with_c2, with_c1, array_of}
 use Rattle.layout.proofs.Counts.{listed_same}
-use Rattle.writing.specs.Arrays.{array_in, number_or, c2_filled, c1_filled}
+use Rattle.writing.specs.Arrays.{array_in, c2_filled, c1_filled}
 
 -- the words of an array in memory
 module _ (xs : List ℕ) (x : Array) (same : (b s : ℕ) → b < 128 → s < 32 → array_in xs b s ≡ x b s) where
@@ -43,23 +43,10 @@ module _ (xs : List ℕ) (x : Array) (same : (b s : ℕ) → b < 128 → s < 32 
       ap₂ (λ j a. byte_at j (filling 4 c1_checks (interleaved xs a 2 32))) q r
       ∙ ap (λ w. byte_at (16 * (b % 2) + s / 2) (filling 4 c1_checks w)) (c1-of (b / 2) (s % 2) (omega arith) (omega arith))
 
-laid-made : (row : List ℕ) (b s : ℕ) → length row ≡ 2912 → b < 128 → s < 32 → get_or row (number_or (32 * b + s)) 0 ≡ laid row b s
-unfolding number_or laid
-laid-made row b s l hb hs =
-    let p : ℕ = 32 * b + s in
-    let eb : p / 32 ≡ b = omega arith in
-    let es : p % 32 ≡ s = omega arith in
-    ap₂ (λ b s. get_or row (cond (is_occupied b s) (number_at b s) 2912) 0) eb es ∙ go (is_occupied b s)
-  where
-    go : (o : Bool) → get_or row (cond o (number_at b s) 2912) 0 ≡ cond o (get_or row (number_at b s) 0) 0
-    go true = refl
-    go false = get_or_past row 2912 0 (omega arith)
-
-pub array_made : (row zs ys xs : List ℕ) → length row ≡ 2912 → ((p : ℕ) → p < 4096 → get_or zs p 0 ≡ get_or row (number_or p) 0)
+pub array_made : (row zs ys xs : List ℕ) → ((b s : ℕ) → b < 128 → s < 32 → array_in zs b s ≡ laid row b s)
     → ((p : ℕ) → p < 4096 → get_or ys p 0 ≡ c2_filled zs p) → ((p : ℕ) → p < 4096 → get_or xs p 0 ≡ c1_filled ys p)
     → (b s : ℕ) → b < 128 → s < 32 → array_in xs b s ≡ array_of row b s
 unfolding array_of
-array_made row zs ys xs l hz hy hx =
-    let first : (b s : ℕ) → b < 128 → s < 32 → array_in zs b s ≡ laid row b s = λ b s hb hs. hz (32 * b + s) (omega arith) ∙ laid-made row b s l hb hs in
+array_made row zs ys xs first hy hx =
     let second : (b s : ℕ) → b < 128 → s < 32 → array_in ys b s ≡ with_c2 (laid row) b s = λ b s hb hs. hy (32 * b + s) (omega arith) ∙ c2-made zs (laid row) first b s hb hs in
     λ b s hb hs. hx (32 * b + s) (omega arith) ∙ c1-made ys (with_c2 (laid row)) second b s hb hs

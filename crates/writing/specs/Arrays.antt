@@ -10,10 +10,6 @@ use Rattle.layout.specs.Writing.{c1_checks, c2_checks}
 abbrev pub array_in : List ℕ → Array
 array_in xs b s = slice_index xs (32 * b + s)
 
--- the number in its row of the byte at place p of an array; 2,912, behind the row, where no byte of a row stands
-unfoldable pub number_or : ℕ → ℕ
-number_or p = cond (is_occupied (p / 32) (p % 32)) (number_at (p / 32) (p % 32)) 2912
-
 -- place p after the C2 words of an array were given their check bytes: C2 word (m, n) begins at place 32 m + n, and its bytes stand 128 apart
 unfoldable pub c2_filled : List ℕ → ℕ → ℕ
 c2_filled xs p = byte_at (p / 128) (filling 6 c2_checks (interleaved xs (p % 128) 128 32))

@@ -1,5 +1,7 @@
 ghost use Rattle.std.specs.Prelude.{◌≡◌};
-ghost use Rattle.writing.specs.Faults.{number};
+ghost use Rattle.writing.specs.Faults.{number, write_fault};
+
+use layout::lent::LentFault;
 
 /// Why a group is not written.
 #[derive(Clone, Copy, PartialEq, Eq, Debug)]
@@ -22,5 +24,18 @@ impl WriteFault {
         ensures { result ≡ number self }
     {
         self as u8
+    }
+}
+
+impl From<LentFault> for WriteFault {
+    ghost from_gives = { λ e r. r ≡ write_fault e };
+
+    fn from(e: LentFault) -> WriteFault {
+        match e {
+            LentFault::TrackBuffer => WriteFault::TrackBuffer,
+            LentFault::Setting => WriteFault::Setting,
+            LentFault::GroupBuffer => WriteFault::GroupBuffer,
+            LentFault::Bench => WriteFault::Bench,
+        }
     }
 }

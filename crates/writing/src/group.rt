@@ -2,41 +2,42 @@ ghost use Rattle.std.specs.Prelude.{◌≡◌, ℕ, ◌+◌, ◌-◌, ◌*◌, �
 ghost use Rattle.layout.specs.Group.{address};
 ghost use Rattle.layout.specs.Line.{track};
 ghost use Rattle.layout.specs.Writing.{array_of};
-ghost use Rattle.writing.specs.Arrays.{number_or};
 ghost use Rattle.writing.specs.Groups.{lent, reached, and_then, outcome, with_tracks, with_group};
 ghost use Rattle.writing.specs.Rows.{row_in};
 
 use crate::fault::WriteFault;
+use crate::places::Places;
 use crate::{array, rows, words};
 use channel::line::LineCode;
+use layout::address::{Address, has_group};
+use layout::lent::check_lent;
+use layout::register::Register;
 use layout::settings::Settings;
+use layout::sizes::{ROW, ROWS, TRACKS};
 use tape::traits::Recordable;
 
-/// Stores the track of one row, as track `t` of group `number`.
+/// Stores the track of one row.
 fn store_track<T: Recordable, C: LineCode>(
     tape: &mut T,
     code: &C,
-    number: u16,
-    t: usize,
+    position: Address,
     row: &[u8],
-    numbers: &[u16],
+    places: &Places,
     array: &mut [u8],
     buffer: &mut [u16],
 )
-    requires number_nonzero { 0 < number }
-    requires t_bound { t < 46 }
-    requires number_in_bounds { 46 * number ≤ length (T.Playable.tracks tape.old) }
+    requires number_nonzero { 0 < position.group }
+    requires number_in_bounds { 46 * position.group ≤ length (T.Playable.tracks tape.old) }
     requires row_len { length row.now ≡ 2912 }
-    requires numbers_len { length numbers.now ≡ 4096 }
-    requires by_index { (p : ℕ) → p < 4096 → slice_index numbers.now p ≡ number_or p }
     requires array_len { length array.old ≡ 4096 }
     requires buffer_len { length buffer.old ≡ 4608 }
     ensures kept { T.Recordable.rest tape.new ≡ T.Recordable.rest tape.old }
-    ensures tape { T.Playable.tracks tape.new ≡ slice_set (T.Playable.tracks tape.old) (46 * (number - 1) + t) (Some (track (C.line code.now) (address number t) (array_of row.now))) }
+    ensures tape { T.Playable.tracks tape.new ≡ slice_set (T.Playable.tracks tape.old) (46 * (position.group - 1) + position.track) (Some (track (C.line code.now) (address position.group position.track) (array_of row.now))) }
 {
-    array::make_array(numbers, row, array);
-    words::send_track(code, number, t, array, buffer);
-    let _ = tape.store(46 * (number as usize - 1) + t, buffer);
+    array::make_array(places, row, array);
+    words::send_track(code, position, array, buffer);
+    let first = TRACKS * (position.group as usize - 1);
+    let _ = tape.store(first + position.track, buffer);
 }
 
 /// Stores the tracks of all rows.
@@ -45,31 +46,25 @@ fn store_rows<T: Recordable, C: LineCode>(
     code: &C,
     number: u16,
     rows: &[u8],
-    numbers: &[u16],
+    places: &Places,
     array: &mut [u8],
     buffer: &mut [u16],
 )
     requires number_nonzero { 0 < number }
     requires number_in_bounds { 46 * number ≤ length (T.Playable.tracks tape.old) }
     requires rows_len { length rows.now ≡ 133952 }
-    requires numbers_len { length numbers.now ≡ 4096 }
-    requires by_index { (p : ℕ) → p < 4096 → slice_index numbers.now p ≡ number_or p }
     requires array_len { length array.old ≡ 4096 }
     requires buffer_len { length buffer.old ≡ 4608 }
     ensures kept { T.Recordable.rest tape.new ≡ T.Recordable.rest tape.old }
     ensures tape { T.Playable.tracks tape.new ≡ with_tracks (λ t. track (C.line code.now) (address number t) (array_of (row_in rows.now t))) number (T.Playable.tracks tape.old) }
 {
-    for t in 0..46 {
-        store_track(
-            tape,
-            code,
-            number,
-            t,
-            &rows[2912 * t..2912 * t + 2912],
-            numbers,
-            array,
-            buffer,
-        );
+    for track in 0..TRACKS {
+        let position = Address {
+            group: number,
+            track,
+        };
+        let row = &rows[ROW * track..ROW * track + ROW];
+        store_track(tape, code, position, row, places, array, buffer);
     }
 }
 
@@ -77,7 +72,7 @@ fn store_rows<T: Recordable, C: LineCode>(
 fn store_group<T: Recordable, C: LineCode>(
     tape: &mut T,
     code: &C,
-    settings: Settings,
+    register: Register,
     number: u16,
     group: &[u8],
     bench: &mut [u8],
@@ -85,73 +80,39 @@ fn store_group<T: Recordable, C: LineCode>(
 )
     requires number_nonzero { 0 < number }
     requires number_in_bounds { 46 * number ≤ length (T.Playable.tracks tape.old) }
-    requires start_bound { settings.start < 32768 }
     requires group_len { length group.now ≡ 126632 }
     requires bench_len { length bench.old ≡ 138048 }
     requires buffer_len { length buffer.old ≡ 4608 }
     ensures kept { T.Recordable.rest tape.new ≡ T.Recordable.rest tape.old }
-    ensures tape { T.Playable.tracks tape.new ≡ with_group (C.line code.now) settings.tap settings.start number group.now (T.Playable.tracks tape.old) }
+    ensures tape { T.Playable.tracks tape.new ≡ with_group (C.line code.now) register.tap register.bits number group.now (T.Playable.tracks tape.old) }
 {
-    let mut pad = [0u8; 5756];
-    let mut numbers = [0u16; 4096];
-    rows::make_rows(settings.tap, settings.start, group, &mut pad, bench);
-    array::number_places(&mut numbers);
-    let (rows, array) = bench.split_at_mut(133_952);
-    store_rows(tape, code, number, rows, &numbers, array, buffer);
-}
-
-/// Tests the lent memory and the settings.
-fn check_lent(
-    buffer: usize,
-    settings: Settings,
-    group: usize,
-    bench: usize,
-) -> Result<(), WriteFault>
-    ensures { result ≡ lent buffer settings.tap settings.start group bench }
-{
-    if buffer != 4608 {
-        return Err(WriteFault::TrackBuffer);
-    }
-    if settings.tap >= 32768 {
-        return Err(WriteFault::Setting);
-    }
-    if settings.start >= 32768 {
-        return Err(WriteFault::Setting);
-    }
-    if group != 126_632 {
-        return Err(WriteFault::GroupBuffer);
-    }
-    if bench != 138_048 {
-        return Err(WriteFault::Bench);
-    }
-    Ok(())
+    rows::make_rows(register, number, group, bench);
+    let places = Places::new();
+    let (rows, array) = bench.split_at_mut(ROWS);
+    store_rows(tape, code, number, rows, &places, array, buffer);
 }
 
 /// Writes a group where the tape has it.
 fn put_group<T: Recordable, C: LineCode>(
     tape: &mut T,
     code: &C,
-    settings: Settings,
+    register: Register,
     number: u16,
     group: &[u8],
     bench: &mut [u8],
     buffer: &mut [u16],
 ) -> Result<(), WriteFault>
-    requires start_bound { settings.start < 32768 }
     requires group_len { length group.now ≡ 126632 }
     requires bench_len { length bench.old ≡ 138048 }
     requires buffer_len { length buffer.old ≡ 4608 }
     ensures answer { result ≡ reached number (length (T.Playable.tracks tape.old)) }
     ensures kept { T.Recordable.rest tape.new ≡ T.Recordable.rest tape.old }
-    ensures tape { T.Playable.tracks tape.new ≡ outcome (reached number (length (T.Playable.tracks tape.old))) (with_group (C.line code.now) settings.tap settings.start number group.now (T.Playable.tracks tape.old)) (T.Playable.tracks tape.old) }
+    ensures tape { T.Playable.tracks tape.new ≡ outcome (reached number (length (T.Playable.tracks tape.old))) (with_group (C.line code.now) register.tap register.bits number group.now (T.Playable.tracks tape.old)) (T.Playable.tracks tape.old) }
 {
-    if number == 0 {
+    if !has_group(tape.length(), number) {
         return Err(WriteFault::NoGroup);
     }
-    if 46 * number as usize > tape.length() {
-        return Err(WriteFault::NoGroup);
-    }
-    store_group(tape, code, settings, number, group, bench, buffer);
+    store_group(tape, code, register, number, group, bench, buffer);
     Ok(())
 }
 
@@ -172,8 +133,8 @@ pub fn write_group<T: Recordable, C: LineCode>(
     ensures bench { bench.new ≡ outcome (lent (length buffer.old) settings.tap settings.start (length group.now) (length bench.old)) (replicate (length bench.old) 0) bench.old }
     ensures buffer { buffer.new ≡ outcome (lent (length buffer.old) settings.tap settings.start (length group.now) (length bench.old)) (replicate (length buffer.old) 0) buffer.old }
 {
-    check_lent(buffer.len(), settings, group.len(), bench.len())?;
-    let answer = put_group(tape, code, settings, number, group, bench, buffer);
+    let register = check_lent(buffer.len(), settings, group.len(), bench.len())?;
+    let answer = put_group(tape, code, register, number, group, bench, buffer);
     bench.fill(0);
     buffer.fill(0);
     answer

@@ -1,8 +1,9 @@
 //! A group as its 46 tracks: rows of bytes, arrays with their check bytes, channel words, and the tape.
 #![tactic(auto)]
 
-pub mod array;
+mod array;
 pub mod fault;
 pub mod group;
-pub mod rows;
-pub mod words;
+mod places;
+mod rows;
+mod words;

@@ -1,99 +1,79 @@
-ghost use Rattle.std.specs.Prelude.{◌≡◌, ℕ, ◌+◌, ◌*◌, ◌/◌, ◌%◌, ◌<◌, ◌≤◌, length, if◌then◌else◌, bit_xor, nat_eq, slice_index};
-ghost use Rattle.layout.specs.Words.{frame_byte};
+ghost use Rattle.std.specs.Prelude.{◌≡◌, ℕ, ◌+◌, ◌*◌, ◌/◌, ◌%◌, ◌<◌, ◌≤◌, length, bit_xor, slice_index};
 ghost use Rattle.writing.specs.Rows.{pad_at, data_index, plain_at, c3_filled, HasRows};
 
-use crate::array::ROW;
-use layout::register::next_byte;
+use layout::address::Address;
+use layout::register::Register;
+use layout::sizes::{ROW, SUB_GROUP, TRACKS};
 use reed_solomon::interleaved;
-
-/// How many bytes a group has, and each of its 22 sub-groups.
-pub const GROUP: usize = 126_632;
-
-pub const SUB_GROUP: usize = 5756;
 
 /// The places of the check bytes in a C3 word.
 const C3_CHECKS: [usize; 2] = [45, 44];
 
+/// A group, and the bytes that are XORed to each of its sub-groups.
+#[derive(Clone, Copy)]
+struct Source<'a> {
+    group: &'a [u8],
+    pad: &'a [u8],
+    ghost group_size: { length group.now ≡ 126632 },
+    ghost pad_size: { length pad.now ≡ 5756 },
+}
+
 /// The bytes that are XORed to each sub-group.
-pub(crate) fn make_pad(tap: u16, start: u16, pad: &mut [u8])
-    requires { start < 32768 }
-    ensures { (d : ℕ) → d < length pad.new → slice_index pad.new d ≡ pad_at tap start d }
+fn make_pad(mut register: Register, pad: &mut [u8])
+    ensures { (d : ℕ) → d < length pad.new → slice_index pad.new d ≡ pad_at register.tap register.bits d }
 {
-    let mut register = start;
-    for d in 0..pad.len() {
-        let (byte, next) = next_byte(tap, register);
-        pad[d] = byte;
-        register = next;
+    for byte in pad.iter_mut() {
+        *byte = register.next_byte();
     }
 }
 
-/// The frame byte of track `k`.
-fn frame_byte(k: usize) -> u8
-    requires { k < 46 }
-    ensures { result ≡ frame_byte (k / 2 + 1) }
-{
-    if k / 2 + 1 == 23 {
-        215
-    } else {
-        (k / 2 + 1) as u8
+impl Source<'_> {
+    /// The randomized data byte at number `q` of row `k`.
+    fn data_byte(self, k: usize, q: usize) -> u8
+        requires k_bound { k < 44 }
+        requires le_q { 2 ≤ q }
+        requires q_bound { q < 2880 }
+        ensures { result ≡ bit_xor (slice_index self.entry.group.now (5756 * (k / 2) + data_index k q)) (slice_index self.entry.pad.now (data_index k q)) }
+    {
+        let d = 4 * (q / 2 - 1) + 2 * ((k % 2 + q / 2) % 2) + q % 2;
+        self.group[SUB_GROUP * (k / 2) + d] ^ self.pad[d]
     }
-}
 
-/// The randomized data byte at number `q` of row `k`.
-fn data_byte(group: &[u8], pad: &[u8], k: usize, q: usize) -> u8
-    requires group_len { length group.now ≡ 126632 }
-    requires pad_len { length pad.now ≡ 5756 }
-    requires k_bound { k < 44 }
-    requires le_q { 2 ≤ q }
-    requires q_bound { q < 2880 }
-    ensures { result ≡ bit_xor (slice_index group.now (5756 * (k / 2) + data_index k q)) (slice_index pad.now (data_index k q)) }
-{
-    let d = 4 * (q / 2 - 1) + 2 * ((k % 2 + q / 2) % 2) + q % 2;
-    group[SUB_GROUP * (k / 2) + d] ^ pad[d]
-}
-
-/// Byte `q` of row `k` before the check bytes of C3.
-fn unchecked_byte(group: &[u8], pad: &[u8], k: usize, q: usize) -> u8
-    requires group_len { length group.now ≡ 126632 }
-    requires pad_len { length pad.now ≡ 5756 }
-    requires k_bound { k < 46 }
-    ensures { result ≡ plain_at group.now pad.now k q }
-{
-    if q < 2 {
-        return if q == 1 { frame_byte(k) } else { 0 };
-    }
-    if q < 2880 {
-        return if k < 44 {
-            data_byte(group, pad, k, q)
+    /// Byte `q` of the row of a track before the check bytes of C3.
+    fn unchecked_byte(self, position: Address, q: usize) -> u8
+        ensures { result ≡ plain_at self.entry.group.now self.entry.pad.now position.track q }
+    {
+        if q < 2 {
+            return if q == 1 { position.frame_byte() } else { 0 };
+        }
+        if q < 2880 && position.track < 44 {
+            self.data_byte(position.track, q)
         } else {
             0
-        };
+        }
     }
-    0
-}
 
-/// Writes row `k` before the check bytes of C3.
-fn spread_row(group: &[u8], pad: &[u8], k: usize, bench: &mut [u8])
-    requires group_len { length group.now ≡ 126632 }
-    requires pad_len { length pad.now ≡ 5756 }
-    requires k_bound { k < 46 }
-    requires in_bounds { 133952 ≤ length bench.old }
-    ensures { (p : ℕ) → slice_index bench.new p ≡ (if nat_eq (p / 2912) k then plain_at group.now pad.now k (p % 2912) else slice_index bench.old p) }
-{
-    for q in 0..ROW {
-        bench[ROW * k + q] = unchecked_byte(group, pad, k, q);
+    /// Writes the row of a track before the check bytes of C3.
+    fn spread_row(self, position: Address, row: &mut [u8])
+        ensures { (q : ℕ) → q < length row.new → slice_index row.new q ≡ plain_at self.entry.group.now self.entry.pad.now position.track q }
+    {
+        for (q, byte) in row.iter_mut().enumerate() {
+            *byte = self.unchecked_byte(position, q);
+        }
     }
-}
 
-/// Writes all rows before the check bytes of C3.
-fn spread(group: &[u8], pad: &[u8], bench: &mut [u8])
-    requires group_len { length group.now ≡ 126632 }
-    requires pad_len { length pad.now ≡ 5756 }
-    requires in_bounds { 133952 ≤ length bench.old }
-    ensures { (p : ℕ) → p < 133952 → slice_index bench.new p ≡ plain_at group.now pad.now (p / 2912) (p % 2912) }
-{
-    for k in 0..46 {
-        spread_row(group, pad, k, bench);
+    /// Writes all rows before the check bytes of C3.
+    fn spread(self, number: u16, rows: &mut [u8])
+        requires { 133952 ≤ length rows.old }
+        ensures { (p : ℕ) → p < 133952 → slice_index rows.new p ≡ plain_at self.entry.group.now self.entry.pad.now (p / 2912) (p % 2912) }
+    {
+        for track in 0..TRACKS {
+            let position = Address {
+                group: number,
+                track,
+            };
+            self.spread_row(position, &mut rows[ROW * track..ROW * track + ROW]);
+        }
     }
 }
 
@@ -108,14 +88,14 @@ fn put_c3(bench: &mut [u8])
 }
 
 /// Writes the rows of a group: what each of its 46 tracks carries.
-pub(crate) fn make_rows(tap: u16, start: u16, group: &[u8], pad: &mut [u8], bench: &mut [u8])
-    requires start_bound { start < 32768 }
+pub(crate) fn make_rows(register: Register, number: u16, group: &[u8], bench: &mut [u8])
     requires group_len { length group.now ≡ 126632 }
-    requires pad_len { length pad.old ≡ 5756 }
     requires in_bounds { 133952 ≤ length bench.old }
-    ensures { HasRows tap start group.now bench.new }
+    ensures { HasRows register.tap register.bits group.now bench.new }
 {
-    make_pad(tap, start, pad);
-    spread(group, pad, bench);
+    let mut pad = [0u8; SUB_GROUP];
+    make_pad(register, &mut pad);
+    let source = Source { group, pad: &pad };
+    source.spread(number, bench);
     put_c3(bench);
 }

@@ -1,5 +1,6 @@
-use Rattle.std.proofs.Common.{◌≡◌, ℕ, ◌<◌, get_or}
+use Rattle.std.proofs.Common.{◌≡◌, length}
+use Rattle.writing.proofs.Laid.{LaidTo}
 use Rattle.writing.proofs.array.lay.Given as goal
 
-abbrev pub invariant-loop-p : goal.invariant-loop-p
-invariant-loop-p l = (k : ℕ) → k < l.p → get_or l.array k 0 ≡ get_or l.row (get_or l.numbers k 0) 0
+abbrev pub invariant-loop-byte : goal.invariant-loop-byte
+invariant-loop-byte l = record { size : length l.array ≡ 4096; laid : LaidTo l.row l.array (length l.yielded) }

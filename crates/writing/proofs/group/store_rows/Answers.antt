@@ -8,22 +8,19 @@ use Rattle.writing.proofs.group.store_rows.Goals as goal
 
 pub store_track-requires : goal.store_track-requires
 store_track-requires g c =
-    let d : 2912 * c.loop-t.t + 2912 - 2912 * c.loop-t.t ≡ 2912 = omega arith in
-    let l : length (take (2912 * c.loop-t.t + 2912 - 2912 * c.loop-t.t) (drop (2912 * c.loop-t.t) c.args.rows.now)) ≡ 2912 =
+    let d : 2912 * c.loop-track.track + 2912 - 2912 * c.loop-track.track ≡ 2912 = omega arith in
+    let l : length (take (2912 * c.loop-track.track + 2912 - 2912 * c.loop-track.track) (drop (2912 * c.loop-track.track) c.args.rows.now)) ≡ 2912 =
     simp (length-take, length-drop) (omega (arith, c.requires.rows_len)) in
     record {
       number_nonzero = c.requires.number_nonzero;
-      t_bound = c.loop-t-test.true;
-      number_in_bounds = omega (arith, c.requires.number_in_bounds, c.loop-t.invariant.0.size);
+      number_in_bounds = omega (arith, c.requires.number_in_bounds, c.loop-track.invariant.0.size);
       row_len = l;
-      numbers_len = c.requires.numbers_len;
-      by_index = c.requires.by_index;
-      array_len = c.loop-t.invariant.2;
-      buffer_len = c.loop-t.invariant.3;
+      array_len = c.loop-track.invariant.2;
+      buffer_len = c.loop-track.invariant.3;
     }
 
-pub loop-t-init : goal.loop-t-init
-loop-t-init g c = (
+pub loop-track-init : goal.loop-track-init
+loop-track-init g c = (
   tracks-none (λ t. track (g.C.LineCode.line c.args.code.now) (address c.args.number t) (array_of (row_in c.args.rows.now t)))
       (46 * (c.args.number - 1)) (g.T.Playable.tracks c.args.tape.now),
   refl,
@@ -31,27 +28,27 @@ loop-t-init g c = (
   c.requires.buffer_len,
 )
 
-pub loop-t-preserved : goal.loop-t-preserved
-loop-t-preserved g c =
+pub loop-track-preserved : goal.loop-track-preserved
+loop-track-preserved g c =
     let k = g.C.LineCode.line c.args.code.now in
     let f : ℕ → List ℕ = λ t. track k (address c.args.number t) (array_of (row_in c.args.rows.now t)) in
     let base : ℕ = 46 * (c.args.number - 1) in
-    let t = c.loop-t.t in
-    let us = g.T.Playable.tracks c.loop-t.tape in
+    let t = c.loop-track.track in
+    let us = g.T.Playable.tracks c.loop-track.tape in
     let d : 2912 * t + 2912 - 2912 * t ≡ 2912 = omega arith in (
       tracks-more f base (g.T.Playable.tracks c.args.tape.now) us (g.T.Playable.tracks c.store_track.new.tape) t (omega (arith, c.requires.number_nonzero, c.requires.number_in_bounds))
           (c.store_track.ensures.tape
-          ∙ ap (λ n. set us (base + t) (Some (track k (address c.args.number t) (array_of (take n (drop (2912 * t) c.args.rows.now)))))) d) c.loop-t.invariant.0,
-      c.store_track.ensures.kept ∙ c.loop-t.invariant.1,
-      c.store_track.auto.array ∙ c.loop-t.invariant.2,
-      c.store_track.auto.buffer ∙ c.loop-t.invariant.3,
+          ∙ ap (λ n. set us (base + t) (Some (track k (address c.args.number t) (array_of (take n (drop (2912 * t) c.args.rows.now)))))) d) c.loop-track.invariant.0,
+      c.store_track.ensures.kept ∙ c.loop-track.invariant.1,
+      c.store_track.auto.array ∙ c.loop-track.invariant.2,
+      c.store_track.auto.buffer ∙ c.loop-track.invariant.3,
     )
 
 pub returns : goal.returns
 returns g c =
     record {
-      kept = c.loop-t.invariant.1;
+      kept = c.loop-track.invariant.1;
       tape =
           tracks-all (λ t. track (g.C.LineCode.line c.args.code.now) (address c.args.number t) (array_of (row_in c.args.rows.now t)))
-          c.args.number (g.T.Playable.tracks c.args.tape.now) (g.T.Playable.tracks c.loop-t.tape) c.loop-t.t (omega arith) c.loop-t.invariant.0;
+          c.args.number (g.T.Playable.tracks c.args.tape.now) (g.T.Playable.tracks c.loop-track.tape) c.loop-track.track (omega arith) c.loop-track.invariant.0;
     }

@@ -6,10 +6,10 @@ use Rattle.writing.specs.Rows.{row_in}
 use Rattle.writing.proofs.TapeSteps.{TracksTo}
 use Rattle.writing.proofs.group.store_rows.Given as goal
 
-abbrev pub invariant-loop-t : goal.invariant-loop-t
-invariant-loop-t g l =
+abbrev pub invariant-loop-track : goal.invariant-loop-track
+invariant-loop-track g l =
     TracksTo (λ t. track (g.C.LineCode.line l.code) (address l.number t) (array_of (row_in l.rows t))) (46 * (l.number - 1))
-    (g.T.Playable.tracks l.initial.tape) (g.T.Playable.tracks l.tape) l.t
+    (g.T.Playable.tracks l.initial.tape) (g.T.Playable.tracks l.tape) l.track
     × (g.T.Recordable.rest l.tape ≡ g.T.Recordable.rest l.initial.tape)
     × (length l.array ≡ 4096)
     × (length l.buffer ≡ 4608)

@@ -12,14 +12,14 @@ pub returns : goal.returns
 returns g c =
     let k = g.C.LineCode.line c.args.code.now in
     let code = c.args.code.now in
-    let t = address c.args.number c.args.t in
+    let t = address c.args.position.group c.args.position.track in
     let x = array_in c.make_array.new.array in
     let ts = g.T.Playable.tracks c.args.tape.now in
-    let at : ℕ = 46 * (c.args.number - 1) + c.args.t in
+    let at : ℕ = 46 * (c.args.position.group - 1) + c.args.position.track in
     let lawful : Lawful k = g.met.C.LineCode.lawful code in
     let valid : Valid t = record { frames = omega arith; signs = omega arith } in
     let b : (i : ℕ) → get_or c.make_array.new.array i 0 < 256 = λ i. search rules in
-    let l : at < length ts = omega (arith, c.requires.number_nonzero, c.requires.t_bound, c.requires.number_in_bounds) in
+    let l : at < length ts = omega (arith, c.requires.number_nonzero, c.args.position.below, c.requires.number_in_bounds) in
     record {
       kept = c.store.ensures.kept;
       tape =

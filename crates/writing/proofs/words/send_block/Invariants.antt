@@ -6,4 +6,4 @@ use Rattle.writing.proofs.words.send_block.Given as goal
 
 abbrev pub invariant-loop-s : goal.invariant-loop-s
 invariant-loop-s g l =
-    Sent (g.C.LineCode.line l.code) (address l.group l.t) (array_in l.array) l.words l.state (36 * l.b + (4 + l.s))
+    Sent (g.C.LineCode.line l.code) (address l.fn.position.group l.fn.position.track) (array_in l.array) l.words l.state (36 * l.b + (4 + l.s))

@@ -6,4 +6,4 @@ use Rattle.writing.proofs.words.send_track.Given as goal
 
 abbrev pub invariant-loop-b : goal.invariant-loop-b
 invariant-loop-b g l =
-    Sent (g.C.LineCode.line l.code) (address l.group l.t) (array_in l.array) l.words l.state (36 * l.b)
+    Sent (g.C.LineCode.line l.code) (address l.position.group l.position.track) (array_in l.array) l.words l.state (36 * l.b)
