@@ -1,5 +1,7 @@
 -- Why a reading is declined.
 use Rattle.std.specs.Prelude.{ℕ, ◌*◌, Bool, cond, ◌&&◌, ◌||◌, List, [], ◌∷◌, Some, None, Ok, Err, Option, Result, ◌==◌, nat_le, nat_lt}
+use Rattle.layout.specs.declared.lent.LentFault.{LentFault}
+use Rattle.layout.specs.declared.lent.LentFault.TheVariants as lent
 use Rattle.losses.specs.declared.fault.ReadFault.{ReadFault}
 use Rattle.losses.specs.declared.fault.ReadFault.TheVariants.{TrackBuffer, Setting, GroupBuffer, Bench, NoGroup, ThirdLoss, Unchecked}
 use Rattle.losses.specs.Losses.{cause_number}
@@ -54,3 +56,10 @@ absent present = cond present None (Some NoGroup)
 abbrev pub declined_or : {X E : Type 0} → Option E → Result X E → Result X E
 declined_or None r = r
 declined_or (Some e) r = Err e
+
+-- a fault of what is lent, as a fault of reading
+abbrev pub read_fault : LentFault → ReadFault
+read_fault lent.TrackBuffer = TrackBuffer
+read_fault lent.Setting = Setting
+read_fault lent.GroupBuffer = GroupBuffer
+read_fault lent.Bench = Bench

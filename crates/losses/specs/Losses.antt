@@ -1,24 +1,22 @@
 -- Why a track is lost, and the row of a loss sheet.
-use Rattle.std.specs.Prelude.{ℕ, Bool, true, false, cond, List, ◌==◌}
+use Rattle.std.specs.Prelude.{ℕ, Bool, true, false, cond, List, Some, None, Option, ◌==◌}
 use Rattle.layout.specs.Reading.{Outcome, read, lost}
 use Rattle.losses.specs.declared.sheet.Cause.{Cause}
-use Rattle.losses.specs.declared.sheet.Cause.TheVariants.{Read, Blank, TooManyLost, NoFilling, WrongHeader}
+use Rattle.losses.specs.declared.sheet.Cause.TheVariants.{Blank, TooManyLost, NoFilling, WrongHeader}
 use Rattle.losses.specs.declared.sheet.LossRow.{LossRow}
 
--- the number of each cause
-abbrev pub cause_number : Cause → ℕ
-cause_number Read = 0
-cause_number Blank = 1
-cause_number TooManyLost = 2
-cause_number NoFilling = 3
-cause_number WrongHeader = 4
+-- the number of each cause, 0 where there is none
+abbrev pub cause_number : Option Cause → ℕ
+cause_number None = 0
+cause_number (Some Blank) = 1
+cause_number (Some TooManyLost) = 2
+cause_number (Some NoFilling) = 3
+cause_number (Some WrongHeader) = 4
 
-abbrev pub is_loss : Cause → Bool
-is_loss Read = false
-is_loss Blank = true
-is_loss TooManyLost = true
-is_loss NoFilling = true
-is_loss WrongHeader = true
+-- whether the track is lost
+abbrev pub is_loss : Option Cause → Bool
+is_loss None = false
+is_loss (Some c) = true
 
 -- the cause with a number, of a lost track
 abbrev pub cause_from : ℕ → Cause
@@ -26,12 +24,12 @@ cause_from c = cond (c == 1) Blank (cond (c == 2) TooManyLost (cond (c == 3) NoF
 
 -- the row of a track that was read
 abbrev pub no_loss : LossRow
-no_loss = record { cause = Read; m = 0; n = 0 }
+no_loss = record { cause = None; m = 0; n = 0 }
 
 -- the row of an outcome
 abbrev pub loss_row : Outcome → LossRow
 loss_row (read r) = no_loss
-loss_row (lost c m n) = record { cause = cause_from c; m = m; n = n }
+loss_row (lost c m n) = record { cause = Some (cause_from c); m = m; n = n }
 
 -- what a row of 2,912 bytes holds after a track was read into it: its bytes, or what it held where the track is lost
 abbrev pub row_after : Outcome → List ℕ → List ℕ

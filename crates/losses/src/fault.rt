@@ -1,7 +1,8 @@
 ghost use Rattle.std.specs.Prelude.{◌≡◌};
-ghost use Rattle.losses.specs.Faults.{track_number, fault_report};
+ghost use Rattle.losses.specs.Faults.{track_number, fault_report, read_fault};
 
 use crate::sheet::LossRow;
+use layout::lent::LentFault;
 
 /// Why reading a track is declined.
 #[derive(Clone, Copy, PartialEq, Eq, Debug)]
@@ -55,6 +56,19 @@ impl ReadFault {
             ReadFault::NoGroup => 19,
             ReadFault::ThirdLoss { .. } => 16,
             ReadFault::Unchecked { .. } => 17,
+        }
+    }
+}
+
+impl From<LentFault> for ReadFault {
+    ghost from_gives = { λ e r. r ≡ read_fault e };
+
+    fn from(e: LentFault) -> ReadFault {
+        match e {
+            LentFault::TrackBuffer => ReadFault::TrackBuffer,
+            LentFault::Setting => ReadFault::Setting,
+            LentFault::GroupBuffer => ReadFault::GroupBuffer,
+            LentFault::Bench => ReadFault::Bench,
         }
     }
 }

@@ -1,57 +1,57 @@
 ghost use Rattle.std.specs.Prelude.{◌≡◌, replicate, if◌then◌else◌, Some, None, nat_lt, slice_index_or, slice_set};
 ghost use Rattle.losses.specs.Losses.{cause_number, is_loss, no_loss};
 
-/// The number of tracks of a group.
-pub const TRACKS: usize = 46;
+use layout::sizes::TRACKS;
 
-/// Why a track is lost, or that it was read.
+/// Why a track is lost.
 #[derive(Clone, Copy, PartialEq, Eq, Debug)]
 pub enum Cause {
-    /// The track was read.
-    Read,
     /// It is blank.
-    Blank,
+    Blank = 1,
     /// A C2 word has more than six lost bytes.
-    TooManyLost,
+    TooManyLost = 2,
     /// A C2 word has no filling.
-    NoFilling,
+    NoFilling = 3,
     /// A header byte is wrong.
-    WrongHeader,
+    WrongHeader = 4,
 }
 
 impl Cause {
-    /// The number of the cause, 0 for a track that was read.
+    /// The number of the cause; 0 stands for a track that was read.
     pub fn number(self) -> u8
-        ensures { result ≡ cause_number self }
+        ensures { result ≡ cause_number (Some self) }
     {
         self as u8
     }
-
-    /// Whether the track is lost.
-    pub fn is_loss(self) -> bool
-        ensures { result ≡ is_loss self }
-    {
-        match self {
-            Cause::Read => false,
-            _ => true,
-        }
-    }
 }
 
-/// The finding on a track: its cause, and the C2 word of the causes `TooManyLost` and `NoFilling`, else 0 and 0.
+/// The finding on a track: why it is lost, if it is, and the C2 word of the causes `TooManyLost` and `NoFilling`, else 0 and 0.
 #[derive(Clone, Copy, PartialEq, Eq, Debug)]
 pub struct LossRow {
-    pub cause: Cause,
+    pub cause: Option<Cause>,
     pub m: u8,
     pub n: u8,
 }
 
 /// The finding on a track that was read.
 pub const NO_LOSS: LossRow = LossRow {
-    cause: Cause::Read,
+    cause: None,
     m: 0,
     n: 0,
 };
+
+impl From<Cause> for LossRow {
+    ghost from_gives = { λ c r. r ≡ record { cause = Some c; m = 0; n = 0 } };
+
+    /// The finding on a track that is lost for a cause that names no C2 word.
+    fn from(cause: Cause) -> LossRow {
+        LossRow {
+            cause: Some(cause),
+            m: 0,
+            n: 0,
+        }
+    }
+}
 
 /// The findings on the 46 tracks of a group.
 #[derive(Clone, Copy)]
@@ -80,7 +80,7 @@ impl LossSheet {
     pub fn row(&self, t: usize) -> Option<LossRow>
         ensures { result ≡ (if nat_lt t 46 then Some (slice_index_or self.now.rows t no_loss) else None) }
     {
-        if t < TRACKS { Some(self.rows[t]) } else { None }
+        self.rows.get(t).copied()
     }
 
     /// Puts the finding on track `t` into that track's row; there is none from 46 on.
@@ -96,16 +96,13 @@ impl LossSheet {
     pub fn finding(&self, t: usize) -> LossRow
         ensures { result ≡ slice_index_or self.now.rows t no_loss }
     {
-        match self.rows.get(t) {
-            Some(row) => *row,
-            None => NO_LOSS,
-        }
+        self.row(t).unwrap_or(NO_LOSS)
     }
 
     /// Whether track `t` is lost.
     pub fn is_lost(&self, t: usize) -> bool
         ensures { result ≡ is_loss (slice_index_or self.now.rows t no_loss).cause }
     {
-        self.finding(t).cause.is_loss()
+        self.finding(t).cause.is_some()
     }
 }

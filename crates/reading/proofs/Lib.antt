@@ -5,6 +5,7 @@ pub mod InOrder
 pub mod Causes
 pub mod WholeTrack
 pub mod Declines
+pub mod Downwards
 pub mod Firsts
 pub mod CrossWords
 pub mod Masks

@@ -1,5 +1,5 @@
 -- Lists that a loop fills, and the lost places of a word.
-use Rattle.std.proofs.Common.{◌≡◌, ℕ, ◌+◌, ◌-◌, ◌*◌, ◌<◌, ◌≤◌, Bool, cond, not, ◌&&◌, ◌||◌, eqb, List, ◌∷◌, length, get_or, drop, set, Option, sym, ap, ◌∙◌, subst, ap₂, add-one, arith}
+use Rattle.std.proofs.Common.{◌≡◌, ℕ, ◌+◌, ◌-◌, ◌*◌, ◌<◌, ◌≤◌, Bool, true, false, cond, not, ◌&&◌, ◌||◌, eqb, List, ◌∷◌, length, get_or, drop, set, Some, None, Option, refl, sym, ap, ◌∙◌, subst, ap₂, add-one, arith}
 use lib.Bits.{bit_xor}
 use Rattle.std.specs.List.{AllByRecursion}
 use Rattle.std.proofs.lemmas.List.{drop-set}
@@ -9,7 +9,8 @@ use Rattle.reed_solomon.specs.Words.{Places, Distinct}
 use Rattle.layout.specs.Counts.{which}
 use Rattle.channel.specs.Line.{Code}
 use Rattle.layout.specs.Line.{Address, label}
-use Rattle.layout.specs.Reading.{block_lost, is_byte}
+use Rattle.std.specs.Option.{unwrap_or, is_some}
+use Rattle.layout.specs.Reading.{block_lost, is_byte, or_zero, is_lost}
 use Rattle.layout.proofs.Counts.{which-below, which-distinct}
 
 -- a step of a loop that writes f i at each place i
@@ -17,19 +18,7 @@ pub fill_step : {X : Type 0} (f : ℕ → X) (xs : List X) (i : ℕ) (d v : X) �
     → (k : ℕ) → k < i + 1 → get_or (set xs i v) k d ≡ f k
 fill_step f xs i d v h e inv k l = ap (λ z. get_or (set xs i z) k d) e ∙ fill_by_more f xs i d h inv k l
 
--- ---- the places that pass a test, put before one another
-
-pub put-kept : (out : List ℕ) (k j : ℕ) → 0 < k → k ≤ length out → drop (k - 1) (set out (k - 1) j) ≡ j ∷ drop k out
-put-kept out k j h l = let e : k - 1 + 1 ≡ k = omega arith in drop-set out (k - 1) j (omega arith) ∙ ap (λ n. j ∷ drop n out) e
-
-pub which-more : (f : ℕ → Bool) (size j k r : ℕ) (out out' : List ℕ) → j < size → k ≤ size → size ≤ k + j → drop k out ≡ which f j → r ≡ cond (f j) (k - 1) k
-    → drop r out' ≡ cond (f j) (j ∷ drop k out) (drop k out) → (r ≤ size) × (size ≤ r + (j + 1)) × (drop r out' ≡ which f (j + 1))
-unfolding which
-which-more f size j k r out out' hj hk hs e er ed = (
-  cond_both (f j) (k - 1) k (λ z. r ≡ z → r ≤ size) (λ _ q. omega arith) (λ _ q. omega arith) er,
-  cond_both (f j) (k - 1) k (λ z. r ≡ z → size ≤ r + (j + 1)) (λ _ q. omega arith) (λ _ q. omega arith) er,
-  ed ∙ ap (λ z. cond (f j) (j ∷ z) z) e ∙ ap (which f) (sym (add-one j)),
-)
+-- ---- the places that pass a test
 
 pub which-places : (f : ℕ → Bool) (size : ℕ) (ps : List ℕ) → ps ≡ which f size → Places size ps
 which-places f size ps e = record {
@@ -47,3 +36,15 @@ block-is c t w b l s one two three r o1 o2 o3 el es e1 e2 e3 d1 d2 d3 er =
     ap not
     (er
     ∙ ap₂ ◌&&◌ (ap₂ ◌&&◌ (ap₂ ◌&&◌ es (d1 ∙ ap₂ is_byte el e1)) (d2 ∙ ap (is_byte b) e2)) (d3 ∙ ap₂ (λ l o. is_byte (bit_xor l b) o) el e3))
+
+-- ---- a byte that may be lost
+
+pub or_zero-is : (o : Option ℕ) → unwrap_or o 0 ≡ or_zero o
+or_zero-is None = refl
+or_zero-is (Some x) = refl
+
+pub is_lost-is : (o : Option ℕ) (n : Bool) → is_some o ≡ not n → n ≡ is_lost o
+is_lost-is None true e = refl
+is_lost-is None false e = absurd (let no : ◌≡◌ {A = ℕ} 0 1 = cc in omega arith)
+is_lost-is (Some x) true e = absurd (let no : ◌≡◌ {A = ℕ} 0 1 = cc in omega arith)
+is_lost-is (Some x) false e = refl

@@ -18,12 +18,12 @@ use Rattle.reading.proofs.InOrder.{small}
 
 module _ (isErased : ℕ → ℕ → Bool) (x : Array) where
   -- a C2 word fails by cause 2 or 3
-  cause-back : (m n : ℕ) → (cause isErased x m n ≡ 0 → ⊥) → cause_number (cause_from (cause isErased x m n)) ≡ cause isErased x m n
+  cause-back : (m n : ℕ) → (cause isErased x m n ≡ 0 → ⊥) → cause_number (Some (cause_from (cause isErased x m n))) ≡ cause isErased x m n
   unfolding cause
   cause-back m n =
-      cond_both (leb (length (erasures isErased x m n)) 6) (cause_of (filled isErased x m n)) 2 (λ z. (z ≡ 0 → ⊥) → cause_number (cause_from z) ≡ z) (λ _. go (filled isErased x m n)) (λ _ _. refl)
+      cond_both (leb (length (erasures isErased x m n)) 6) (cause_of (filled isErased x m n)) 2 (λ z. (z ≡ 0 → ⊥) → cause_number (Some (cause_from z)) ≡ z) (λ _. go (filled isErased x m n)) (λ _ _. refl)
     where
-      go : (o : Option (List ℕ)) → (cause_of o ≡ 0 → ⊥) → cause_number (cause_from (cause_of o)) ≡ cause_of o
+      go : (o : Option (List ℕ)) → (cause_of o ≡ 0 → ⊥) → cause_number (Some (cause_from (cause_of o))) ≡ cause_of o
       go None h = refl
       go (Some u) h = absurd (h refl)
 

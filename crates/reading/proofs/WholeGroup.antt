@@ -107,9 +107,7 @@ module _ (tap start : ℕ) (sheet : List LossRow) (rows : List ℕ) where
 
 loss-is : (o : Outcome) → is_loss (loss_row o).cause ≡ is_gone o
 loss-is (read r) = refl
-loss-is (lost c m n) = cond_both (eqb c 1) Blank (cond (eqb c 2) TooManyLost (cond (eqb c 3) NoFilling WrongHeader)) (λ x. is_loss x ≡ true) (λ _. refl)
-    (λ _. cond_both (eqb c 2) TooManyLost (cond (eqb c 3) NoFilling WrongHeader) (λ x. is_loss x ≡ true) (λ _. refl)
-    (λ _. cond_both (eqb c 3) NoFilling WrongHeader (λ x. is_loss x ≡ true) (λ _. refl) (λ _. refl)))
+loss-is (lost c m n) = refl
 
 module _ (tap start : ℕ) (o : ℕ → Outcome) (sheet : List LossRow) (rows : List ℕ) (h : Holds o rows sheet 46) where
   gone-is : (k : ℕ) → k < 46 → gone_in sheet k ≡ is_gone (o k)

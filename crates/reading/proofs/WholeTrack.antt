@@ -1,5 +1,5 @@
 -- The reading of a whole track.
-use Rattle.std.proofs.Common.{◌≡◌, ℕ, ◌+◌, ◌*◌, ◌/◌, ◌%◌, ◌<◌, Bool, true, false, cond, not, ◌&&◌, ◌||◌, eqb, List, [], get_or, sym, refl, ap, ◌∙◌, ap₂, arith}
+use Rattle.std.proofs.Common.{◌≡◌, ℕ, ◌+◌, ◌*◌, ◌/◌, ◌%◌, ◌<◌, Bool, true, false, cond, not, ◌&&◌, ◌||◌, eqb, List, [], get_or, Some, sym, refl, ap, ◌∙◌, ap₂, arith}
 use Rattle.std.proofs.lemmas.Bool.{cond-true, cond-false, eq-eqb, ne_eqb}
 use Rattle.reed_solomon.specs.Interleaves.{interleaved}
 use Rattle.layout.specs.Placing.{block_at, serial_at}
@@ -64,10 +64,10 @@ module _ (c : Code) (t : Address) (w : ℕ → ℕ) (xs ys : List ℕ) (gs fs : 
         ∙ sym (ap₂ (λ a b. cond (eqb a (frame_byte t.frame) && eqb b 0) (read (row (corrected (erased_in fs) (array_in xs)))) (lost 4 0 0))
         (f.whole z 0 0 (omega arith) (omega arith)) (f.whole z 0 2 (omega arith) (omega arith)))
 
-    pub track-unheaded : false ≡ (eqb (get_or ys 0 0) (frame_byte t.frame) && eqb (get_or ys 2 0) 0) → Judged (reading c t w) ys (record { cause = WrongHeader; m = 0; n = 0 })
+    pub track-unheaded : false ≡ (eqb (get_or ys 0 0) (frame_byte t.frame) && eqb (get_or ys 2 0) 0) → Judged (reading c t w) ys (record { cause = Some WrongHeader; m = 0; n = 0 })
     unfolding headed
     track-unheaded e =
-        judged-lost (reading c t w) ys (record { cause = WrongHeader; m = 0; n = 0 })
+        judged-lost (reading c t w) ys (record { cause = Some WrongHeader; m = 0; n = 0 })
         (sym (by-header ∙ cond-false headed (read (row (corrected (erased_in fs) (array_in xs)))) (lost 4 0 0) (sym e))) refl
 
     pub track-read : true ≡ (eqb (get_or ys 0 0) (frame_byte t.frame) && eqb (get_or ys 2 0) 0) → Judged (reading c t w) ys no_loss

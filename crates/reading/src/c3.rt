@@ -1,30 +1,17 @@
-ghost use Rattle.std.specs.Prelude.{◌≡◌, ℕ, ◌+◌, ◌<◌, ◌≤◌, ◌&&◌, length, drop, if◌then◌else◌, ◌==◌};
+ghost use Rattle.std.specs.Prelude.{◌≡◌, ◌<◌, ◌≤◌, length};
 ghost use Rattle.layout.specs.Counts.{which};
 ghost use Rattle.reed_solomon.specs.Words.{Places};
 ghost use Rattle.reading.specs.Groups.{gone_in, third_in, Column, Filled};
 
-use crate::places::data_number;
-use crate::recovery::{put_before, recover};
-use crate::track::{ARRAY, ROW};
-use losses::sheet::{LossSheet, TRACKS};
+use crate::passing::passing;
+use crate::recovery::recover;
+use arrayvec::ArrayVec;
+use layout::row::data_number_at;
+use layout::sizes::{ARRAY, ROW, TRACKS};
+use losses::sheet::LossSheet;
 
 /// The check bytes of a C3 word.
 const CHECKS: usize = 2;
-
-/// Whether a track is the third lost one, after `count` others.
-fn is_third(lost: bool, count: usize) -> bool
-    ensures { result ≡ (lost && count == 2) }
-{
-    lost && count == CHECKS
-}
-
-/// One more, if the track is lost.
-fn counted(lost: bool, count: usize) -> usize
-    requires { count < 46 }
-    ensures { result ≡ (if lost then 1 else 0) + count }
-{
-    if lost { count + 1 } else { count }
-}
 
 /// The third lost track, if three are lost.
 pub(crate) fn third_lost(sheet: &LossSheet) -> Option<usize>
@@ -32,26 +19,21 @@ pub(crate) fn third_lost(sheet: &LossSheet) -> Option<usize>
 {
     let mut count = 0usize;
     for t in 0..TRACKS {
-        let lost = sheet.is_lost(t);
-        if is_third(lost, count) {
-            return Some(t);
+        if sheet.is_lost(t) {
+            if count == CHECKS {
+                return Some(t);
+            }
+            count += 1;
         }
-        count = counted(lost, count);
     }
     None
 }
 
-/// The lost tracks, in the end of `out` from the answer on.
-pub(crate) fn lost_tracks(sheet: &LossSheet, out: &mut [usize]) -> usize
-    requires { length out.old ≡ 46 }
-    ensures within { result ≤ 46 }
-    ensures listed { drop result out.new ≡ which (gone_in sheet.now.rows) 46 }
+/// The lost tracks, the greatest first.
+pub(crate) fn lost_tracks(sheet: &LossSheet) -> ArrayVec<usize, TRACKS>
+    ensures { result.items ≡ which (gone_in sheet.now.rows) 46 }
 {
-    let mut k = TRACKS;
-    for t in 0..TRACKS {
-        k = put_before(out, k, t, sheet.is_lost(t));
-    }
-    k
+    passing(|t| sheet.is_lost(t))
 }
 
 /// Fills the C3 word of place `p`, if D bytes stand there; false if it has no filling.
@@ -62,7 +44,7 @@ fn fill_place(rows: &mut [u8], lost: &[usize], p: usize) -> bool
     requires place { p < 4096 }
     ensures { Column lost.now rows.old rows.new p result }
 {
-    match data_number(p) {
+    match data_number_at(p) {
         Some(q) => recover(rows, q, ROW, TRACKS, lost, CHECKS),
         None => true,
     }

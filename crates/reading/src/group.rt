@@ -1,55 +1,42 @@
-ghost use Rattle.std.specs.Prelude.{◌≡◌, ℕ, ◌+◌, ◌-◌, ◌*◌, ◌<◌, ◌≤◌, length, replicate, None, OnOk, slice_index};
-ghost use Rattle.losses.specs.Faults.{answered, unless, declined_or, size_decline, group_decline, absent};
+ghost use Rattle.std.specs.Prelude.{◌≡◌, ℕ, ◌+◌, ◌-◌, ◌*◌, ◌<◌, ◌≤◌, length, replicate, slice_index};
+ghost use Rattle.losses.specs.Faults.{unless, declined_or, size_decline, group_decline};
 ghost use Rattle.reading.specs.Groups.{findings, outcomes, found, Holds, found_in, answer_of, group_after};
 ghost use Rattle.losses.specs.Losses.{loss_row, row_after};
 
 use crate::c3::{fill_words, lost_tracks, third_lost};
 use crate::randomizer::take_group;
-use crate::track::{ROW, read_words};
+use crate::track::read_words;
 use channel::line::LineCode;
+use layout::address::{Address, has_group};
+use layout::lent::check_lent;
+use layout::register::Register;
 use layout::settings::Settings;
+use layout::sizes::{BLOCK_BYTES, ROW, ROWS, TRACKS};
 use losses::fault::ReadFault;
-use losses::sheet::{Cause, LossRow, LossSheet, TRACKS};
-use tape::traits::{Playable, WORDS};
+use losses::sheet::{Cause, LossRow, LossSheet};
+use tape::traits::Playable;
 
-/// The bytes of a group.
-pub const GROUP: usize = 126632;
-
-/// The bytes of the 46 rows of a group.
-const ROWS: usize = 133952;
-
-/// The bytes of a bench: 46 rows, and an array.
-pub const BENCH: usize = 138048;
-
-/// The greatest setting.
-const LAST_SETTING: u16 = 32767;
-
-/// Fetches track `t` of a group, and reads it into its row; a blank track is lost.
+/// Fetches a track, and reads it into its row; a blank one is lost.
 fn read_one<T: Playable, C: LineCode>(
     tape: &T,
     code: &C,
-    number: u16,
-    t: usize,
+    position: Address,
     buffer: &mut [u16],
     array: &mut [u8],
     row: &mut [u8],
 ) -> LossRow
-    requires track { t < 46 }
-    requires group { 0 < number }
-    requires tape { 46 * number ≤ length (T.Playable.tracks tape.now) }
+    requires group { 0 < position.group }
+    requires tape { 46 * position.group ≤ length (T.Playable.tracks tape.now) }
     requires buffer { length buffer.old ≡ 4608 }
     requires array { length array.old ≡ 4096 }
     requires row { length row.old ≡ 2912 }
-    ensures finding { result ≡ loss_row (outcomes (C.line code.now) number (T.Playable.tracks tape.now) t) }
-    ensures bytes { row.new ≡ row_after (outcomes (C.line code.now) number (T.Playable.tracks tape.now) t) row.old }
+    ensures finding { result ≡ loss_row (outcomes (C.line code.now) position.group (T.Playable.tracks tape.now) position.track) }
+    ensures bytes { row.new ≡ row_after (outcomes (C.line code.now) position.group (T.Playable.tracks tape.now) position.track) row.old }
 {
-    match tape.fetch(TRACKS * (number as usize - 1) + t, buffer) {
-        Ok(()) => read_words(code, buffer, number, t, array, row),
-        Err(_) => LossRow {
-            cause: Cause::Blank,
-            m: 0,
-            n: 0,
-        },
+    let first = TRACKS * (position.group as usize - 1);
+    match tape.fetch(first + position.track, buffer) {
+        Ok(()) => read_words(code, buffer, position, array, row),
+        Err(_) => LossRow::from(Cause::Blank),
     }
 }
 
@@ -72,25 +59,28 @@ fn read_tracks<T: Playable, C: LineCode>(
     ensures { Holds (outcomes (C.line code.now) number (T.Playable.tracks tape.now)) rows.new sheet.new.rows 46 }
 {
     *sheet = LossSheet::new();
-    for t in 0..TRACKS {
-        let row = &mut rows[ROW * t..ROW * t + ROW];
-        let finding = read_one(tape, code, number, t, buffer, array, row);
-        sheet.put(t, finding);
+    for track in 0..TRACKS {
+        let position = Address {
+            group: number,
+            track,
+        };
+        let row = &mut rows[ROW * track..ROW * track + ROW];
+        let finding = read_one(tape, code, position, buffer, array, row);
+        sheet.put(track, finding);
     }
 }
 
 /// Judges a group by its loss sheet and its rows: fills the lost ones, and takes the bytes of the group.
 fn judge_group(
-    settings: Settings,
+    register: Register,
     sheet: &LossSheet,
     rows: &mut [u8],
     group: &mut [u8],
 ) -> Result<(), ReadFault>
     requires rows { length rows.old ≡ 133952 }
     requires group { length group.old ≡ 126632 }
-    requires start { settings.start < 32768 }
-    ensures answer { result ≡ answer_of sheet.now.rows (found_in settings.tap settings.start sheet.now.rows rows.old) }
-    ensures bytes { group.new ≡ group_after (found_in settings.tap settings.start sheet.now.rows rows.old) group.old }
+    ensures answer { result ≡ answer_of sheet.now.rows (found_in register.tap register.bits sheet.now.rows rows.old) }
+    ensures bytes { group.new ≡ group_after (found_in register.tap register.bits sheet.now.rows rows.old) group.old }
 {
     if let Some(t) = third_lost(sheet) {
         return Err(ReadFault::ThirdLoss {
@@ -98,15 +88,14 @@ fn judge_group(
             row: sheet.finding(t),
         });
     }
-    let mut lost = [0usize; TRACKS];
-    let k = lost_tracks(sheet, &mut lost);
-    if let Some(p) = fill_words(rows, &lost[k..]) {
+    let lost = lost_tracks(sheet);
+    if let Some(p) = fill_words(rows, lost.as_slice()) {
         return Err(ReadFault::Unchecked {
-            block: (p / 32) as u8,
-            serial: (p % 32) as u8,
+            block: (p / BLOCK_BYTES) as u8,
+            serial: (p % BLOCK_BYTES) as u8,
         });
     }
-    take_group(rows, settings, group);
+    take_group(rows, register, group);
     Ok(())
 }
 
@@ -114,7 +103,7 @@ fn judge_group(
 fn read_present<T: Playable, C: LineCode>(
     tape: &T,
     code: &C,
-    settings: Settings,
+    register: Register,
     number: u16,
     bench: &mut [u8],
     buffer: &mut [u16],
@@ -126,50 +115,14 @@ fn read_present<T: Playable, C: LineCode>(
     requires buffer { length buffer.old ≡ 4608 }
     requires bench { length bench.old ≡ 138048 }
     requires group { length group.old ≡ 126632 }
-    requires start { settings.start < 32768 }
-    ensures answer { result ≡ answer_of (findings (C.line code.now) number (T.Playable.tracks tape.now)) (found (C.line code.now) settings.tap settings.start number (T.Playable.tracks tape.now)) }
-    ensures bytes { group.new ≡ group_after (found (C.line code.now) settings.tap settings.start number (T.Playable.tracks tape.now)) group.old }
+    ensures answer { result ≡ answer_of (findings (C.line code.now) number (T.Playable.tracks tape.now)) (found (C.line code.now) register.tap register.bits number (T.Playable.tracks tape.now)) }
+    ensures bytes { group.new ≡ group_after (found (C.line code.now) register.tap register.bits number (T.Playable.tracks tape.now)) group.old }
     ensures findings { sheet.new.rows ≡ findings (C.line code.now) number (T.Playable.tracks tape.now) }
 {
     bench.fill(0);
     let (rows, array) = bench.split_at_mut(ROWS);
     read_tracks(tape, code, number, buffer, array, rows, sheet);
-    judge_group(settings, sheet, rows, group)
-}
-
-/// Tests the settings and the sizes of the memory that is lent.
-fn check_sizes(
-    buffer: usize,
-    settings: Settings,
-    group: usize,
-    bench: usize,
-) -> Result<(), ReadFault>
-    ensures answer { result ≡ answered (size_decline buffer settings.tap settings.start group bench) tt }
-    ensures within { OnOk result ((buffer ≡ 4608) × (settings.start < 32768) × (group ≡ 126632) × (bench ≡ 138048)) }
-{
-    if buffer != WORDS {
-        return Err(ReadFault::TrackBuffer);
-    }
-    if settings.tap > LAST_SETTING || settings.start > LAST_SETTING {
-        return Err(ReadFault::Setting);
-    }
-    if group != GROUP {
-        return Err(ReadFault::GroupBuffer);
-    }
-    if bench != BENCH {
-        return Err(ReadFault::Bench);
-    }
-    Ok(())
-}
-
-/// Whether the whole group is on a tape of `length` tracks.
-fn is_present(number: u16, length: usize) -> bool
-    ensures { group_decline None number length ≡ absent result }
-{
-    if number == 0 {
-        return false;
-    }
-    TRACKS * number as usize <= length
+    judge_group(register, sheet, rows, group)
 }
 
 /// Reads a group into the group buffer, by way of bench and track buffer, and the findings on its 46 tracks into the
@@ -191,9 +144,9 @@ pub fn read_group<T: Playable, C: LineCode>(
     ensures bench_zero { bench.new ≡ unless (size_decline (length buffer.old) settings.tap settings.start (length group.old) (length bench.old)) (replicate (length bench.old) 0) bench.old }
     ensures buffer_zero { buffer.new ≡ unless (size_decline (length buffer.old) settings.tap settings.start (length group.old) (length bench.old)) (replicate (length buffer.old) 0) buffer.old }
 {
-    check_sizes(buffer.len(), settings, group.len(), bench.len())?;
-    let answer = if is_present(number, tape.length()) {
-        read_present(tape, code, settings, number, bench, buffer, group, sheet)
+    let register = check_lent(buffer.len(), settings, group.len(), bench.len())?;
+    let answer = if has_group(tape.length(), number) {
+        read_present(tape, code, register, number, bench, buffer, group, sheet)
     } else {
         Err(ReadFault::NoGroup)
     };

@@ -27,18 +27,3 @@ pub(crate) fn recover(
     }
     fill_interleaved(memory, start, stride, n, lost, r)
 }
-
-/// Puts `j` before place `k`, if it is to be kept; gives where the list then begins.
-pub(crate) fn put_before(out: &mut [usize], k: usize, j: usize, kept: bool) -> usize
-    requires k_nonzero { 0 < k }
-    requires k_in_bounds { k ≤ length out.old }
-    ensures start { result ≡ (if kept then k - 1 else k) }
-    ensures listed { drop result out.new ≡ (if kept then j ∷ drop k out.old else drop k out.old) }
-{
-    if kept {
-        out[k - 1] = j;
-        k - 1
-    } else {
-        k
-    }
-}

@@ -1,32 +1,48 @@
-use Rattle.std.proofs.Common.{◌≡◌, ℕ, ◌+◌, ◌≤◌, Bool, cond, ◌&&◌, eqb, sym, refl, ◌∙◌, ap₂, arith}
+use Rattle.std.proofs.Common.{◌≡◌, ℕ, ◌+◌, ◌≤◌, Bool, true, false, cond, ◌&&◌, eqb, sym, refl, ap, ◌∙◌, ap₂, arith}
+use Rattle.std.proofs.lemmas.Bool.{eq-eqb, ne_eqb}
 use Rattle.layout.specs.Counts.{count}
-use Rattle.std.proofs.lemmas.Bool.{cond_both}
 use Rattle.reading.specs.Groups.{gone_in, third_in}
 use Rattle.reading.proofs.Firsts.{first-here, first-later, first-over, count_next}
 use Rattle.reading.proofs.c3.third_lost.Goals as goal
+use Rattle.reading.proofs.c3.third_lost.Goals.{then-is_lost+else-count-eq-CHECKS, else-is_lost}
 
 pub loop-t-init : goal.loop-t-init
 unfolding third_in count
-loop-t-init c = (refl, omega arith, refl)
+loop-t-init c = record { counted = refl; few = omega arith; left = refl }
 
-pub returns-then-is_third : goal.returns-then-is_third
-returns-then-is_third c =
+pub returns-then-count-eq-CHECKS : goal.returns-then-count-eq-CHECKS
+returns-then-count-eq-CHECKS c =
     let f : ℕ → Bool = gone_in c.args.sheet.now.rows in
-    sym (c.loop-t.invariant.2
-    ∙ first-here (λ k. f k && eqb (count f k) 2) c.loop-t.t 46 c.loop-t-test.true
-    (sym (c.if-is_third.ensures ∙ ap₂ (λ a b. a && eqb b 2) c.is_lost-lost.ensures c.loop-t.invariant.0)))
+    let gone : f c.loop-t.t ≡ true = sym c.is_lost.ensures ∙ c.if-is_lost.true in
+    let two : eqb (count f c.loop-t.t) 2 ≡ true = eq-eqb _ 2 (sym c.loop-t.invariant.counted ∙ c.if-count-eq-CHECKS.true) in
+    sym (c.loop-t.invariant.left ∙ first-here (λ k. f k && eqb (count f k) 2) c.loop-t.t 46 c.loop-t-test.true (ap₂ ◌&&◌ gone two))
 
 pub loop-t-preserved : goal.loop-t-preserved
 loop-t-preserved c =
-    let f : ℕ → Bool = gone_in c.args.sheet.now.rows in (
-      count_next f c.loop-t.t c.counted-count.result (c.counted-count.ensures ∙ ap₂ (λ a b. cond a 1 0 + b) c.is_lost-lost.ensures c.loop-t.invariant.0),
-      cond_both c.is_lost-lost.result 1 0 (λ z. c.counted-count.result ≡ z + c.loop-t.count → c.counted-count.result ≤ c.loop-t.t + 1) (λ _ e. omega arith) (λ _ e. omega arith) c.counted-count.ensures,
-      c.loop-t.invariant.2
-          ∙ first-later (λ k. f k && eqb (count f k) 2) c.loop-t.t 46 c.loop-t-test.true
-          (sym (c.if-is_third.ensures ∙ ap₂ (λ a b. a && eqb b 2) c.is_lost-lost.ensures c.loop-t.invariant.0)),
-    )
+    let f : ℕ → Bool = gone_in c.args.sheet.now.rows in
+    let t : ℕ = c.loop-t.t in
+    let n : ℕ = c.loop-t.count in
+    elim c.if-is_lost.branch [
+      | then-is_lost+else-count-eq-CHECKS w ↦
+          let gone : f t ≡ true = sym c.is_lost.ensures ∙ w.if-is_lost.true in
+          let two : eqb (count f t) 2 ≡ false = ne_eqb _ 2 (λ e. w.if-count-eq-CHECKS.false (c.loop-t.invariant.counted ∙ e)) in
+          let one : ◌≡◌ {A = ℕ} (cond (f t) 1 0) 1 = ap (λ b. cond b 1 0) gone in
+          record {
+            counted = count_next f t c.if-is_lost.count (omega (arith, w.count-is, one, c.loop-t.invariant.counted));
+            few = omega (arith, w.count-is, c.loop-t.invariant.few);
+            left = c.loop-t.invariant.left ∙ first-later (λ k. f k && eqb (count f k) 2) t 46 c.loop-t-test.true (ap₂ ◌&&◌ gone two);
+          }
+      | else-is_lost w ↦
+          let kept : f t ≡ false = sym c.is_lost.ensures ∙ w.if-is_lost.false in
+          let none : ◌≡◌ {A = ℕ} (cond (f t) 1 0) 0 = ap (λ b. cond b 1 0) kept in
+          record {
+            counted = count_next f t c.if-is_lost.count (omega (arith, w.count-is, none, c.loop-t.invariant.counted));
+            few = omega (arith, w.count-is, c.loop-t.invariant.few);
+            left = c.loop-t.invariant.left ∙ first-later (λ k. f k && eqb (count f k) 2) t 46 c.loop-t-test.true (ap (λ z. z && eqb (count f t) 2) kept);
+          }
+    ]
 
 pub returns : goal.returns
 returns c =
     let f : ℕ → Bool = gone_in c.args.sheet.now.rows in
-    sym (c.loop-t.invariant.2 ∙ first-over (λ k. f k && eqb (count f k) 2) c.loop-t.t 46 c.loop-t-test.false)
+    sym (c.loop-t.invariant.left ∙ first-over (λ k. f k && eqb (count f k) 2) c.loop-t.t 46 c.loop-t-test.false)

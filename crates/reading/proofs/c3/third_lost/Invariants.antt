@@ -6,5 +6,8 @@ use Rattle.reading.proofs.c3.third_lost.Given as goal
 
 abbrev pub invariant-loop-t : goal.invariant-loop-t
 invariant-loop-t l =
-    (l.count ≡ count (gone_in l.sheet.rows) l.t) × (l.count ≤ l.t)
-    × (third_in l.sheet.rows ≡ first_from (λ k. gone_in l.sheet.rows k && eqb (count (gone_in l.sheet.rows) k) 2) l.t (46 - l.t))
+    record {
+      counted : l.count ≡ count (gone_in l.sheet.rows) l.t;
+      few : l.count ≤ l.t;
+      left : third_in l.sheet.rows ≡ first_from (λ k. gone_in l.sheet.rows k && eqb (count (gone_in l.sheet.rows) k) 2) l.t (46 - l.t);
+    }

@@ -8,16 +8,12 @@ use Rattle.reading.proofs.Lists.{which-places}
 use Rattle.reading.proofs.WholeGroup.{few-lost, third-below, place-below, found-third, found-bad, found-whole}
 use Rattle.reading.proofs.group.judge_group.Goals as goal
 
--- the end of a list of 46
-rest : (xs : List ℕ) (k : ℕ) (f : List ℕ) → length xs ≡ 46 → drop k xs ≡ f → take (46 - k) (drop k xs) ≡ f
-rest xs k f e h = subst (λ n. take (n - k) (drop k xs) ≡ drop k xs) e (take_rest xs k) ∙ h
-
 pub overflow_cast-result : goal.overflow_cast-result
 overflow_cast-result c = let l : c.in-Some.t < 46 = third-below c.args.sheet.now.rows c.in-Some.t c.in-Some.ensures in search rules
 
 pub returns-in-Some : goal.returns-in-Some
 returns-in-Some c =
-    let f = found-third c.args.settings.tap c.args.settings.start c.args.sheet.now.rows c.args.rows.now c.in-Some.t c.in-Some.ensures in
+    let f = found-third c.args.register.tap c.args.register.bits c.args.sheet.now.rows c.args.rows.now c.in-Some.t c.in-Some.ensures in
     record {
       answer = ap (λ (r : LossRow). Err (ThirdLoss c.in-Some.t r)) c.finding.ensures ∙ sym (ap (answer_of c.args.sheet.now.rows) f);
       bytes = sym (ap (λ z. group_after z c.args.group.now) f);
@@ -25,35 +21,30 @@ returns-in-Some c =
 
 pub fill_words-requires : goal.fill_words-requires
 fill_words-requires c =
-    let l = rest c.lost_tracks-k.new.out c.lost_tracks-k.result (which (gone_in c.args.sheet.now.rows) 46) c.lost_tracks-k.auto.out c.lost_tracks-k.ensures.listed in
+    let e : c.as_slice.result.now ≡ which (gone_in c.args.sheet.now.rows) 46 = c.as_slice.ensures.value ∙ c.lost_tracks-lost.ensures in
     record {
       size = c.requires.rows;
-      places = which-places (gone_in c.args.sheet.now.rows) 46 (take (46 - c.lost_tracks-k.result) (drop c.lost_tracks-k.result c.lost_tracks-k.new.out)) l;
-      few = subst (λ z. length z ≤ 2) (sym l) (few-lost c.args.sheet.now.rows c.in_default.ensures);
+      places = which-places (gone_in c.args.sheet.now.rows) 46 c.as_slice.result.now e;
+      few = subst (λ z. length z ≤ 2) (sym e) (few-lost c.args.sheet.now.rows c.in_default.ensures);
     }
 
 pub overflow_cast-result-in-Some-fill_words : goal.overflow_cast-result-in-Some-fill_words
 overflow_cast-result-in-Some-fill_words c =
-    let l : c.in-Some-fill_words.p < 4096 =
-    place-below (take (46 - c.lost_tracks-k.result) (drop c.lost_tracks-k.result c.lost_tracks-k.new.out)) c.args.rows.now c.fill_words.new.rows c.in-Some-fill_words.p c.in-Some-fill_words.ensures in
+    let l : c.in-Some-fill_words.p < 4096 = place-below c.as_slice.result.now c.args.rows.now c.fill_words.new.rows c.in-Some-fill_words.p c.in-Some-fill_words.ensures in
     search rules
 
 pub returns-in-Some-fill_words : goal.returns-in-Some-fill_words
 returns-in-Some-fill_words c =
     let f =
-    found-bad c.args.settings.tap c.args.settings.start c.args.sheet.now.rows c.args.rows.now
-    (take (46 - c.lost_tracks-k.result) (drop c.lost_tracks-k.result c.lost_tracks-k.new.out)) c.fill_words.new.rows c.in_default.ensures
-    (rest c.lost_tracks-k.new.out c.lost_tracks-k.result (which (gone_in c.args.sheet.now.rows) 46) c.lost_tracks-k.auto.out c.lost_tracks-k.ensures.listed)
-    c.in-Some-fill_words.p c.in-Some-fill_words.ensures in
+    found-bad c.args.register.tap c.args.register.bits c.args.sheet.now.rows c.args.rows.now c.as_slice.result.now c.fill_words.new.rows c.in_default.ensures
+    (c.as_slice.ensures.value ∙ c.lost_tracks-lost.ensures) c.in-Some-fill_words.p c.in-Some-fill_words.ensures in
     record { answer = sym (ap (answer_of c.args.sheet.now.rows) f); bytes = sym (ap (λ z. group_after z c.args.group.now) f) }
 
 pub returns : goal.returns
 returns c =
     let f =
-    found-whole c.args.settings.tap c.args.settings.start c.args.sheet.now.rows c.args.rows.now
-    (take (46 - c.lost_tracks-k.result) (drop c.lost_tracks-k.result c.lost_tracks-k.new.out)) c.fill_words.new.rows c.in_default.ensures
-    (rest c.lost_tracks-k.new.out c.lost_tracks-k.result (which (gone_in c.args.sheet.now.rows) 46) c.lost_tracks-k.auto.out c.lost_tracks-k.ensures.listed)
-    c.in_default-fill_words.ensures in
+    found-whole c.args.register.tap c.args.register.bits c.args.sheet.now.rows c.args.rows.now c.as_slice.result.now c.fill_words.new.rows c.in_default.ensures
+    (c.as_slice.ensures.value ∙ c.lost_tracks-lost.ensures) c.in_default-fill_words.ensures in
     record {
       answer = sym (ap (answer_of c.args.sheet.now.rows) f);
       bytes = c.take_group.ensures ∙ sym (ap (λ z. group_after z c.args.group.now) f);

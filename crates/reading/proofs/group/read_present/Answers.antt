@@ -21,7 +21,7 @@ pub returns : goal.returns
 unfolding group_read
 returns g c =
     let o : ℕ → Outcome = outcomes (g.C.LineCode.line c.args.code.now) c.args.number (g.T.Playable.tracks c.args.tape.now) in
-    let f = found-is c.args.settings.tap c.args.settings.start o c.read_tracks.new.sheet.rows c.read_tracks.new.rows c.read_tracks.ensures in
+    let f = found-is c.args.register.tap c.args.register.bits o c.read_tracks.new.sheet.rows c.read_tracks.new.rows c.read_tracks.ensures in
     let s = sheet-is o c.read_tracks.new.sheet.rows c.read_tracks.new.rows c.read_tracks.ensures in
     record {
       answer = c.judge_group.ensures.answer ∙ ap₂ answer_of s f;
