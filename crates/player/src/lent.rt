@@ -4,7 +4,7 @@ ghost use Rattle.playing.specs.Play.{size_fault};
 
 use layout::settings::Settings;
 use playing::fault::PlayFault;
-use reading::group::{BENCH, GROUP};
+use layout::sizes::{BENCH, GROUP};
 use tape::traits::WORDS;
 
 /// The greatest setting.
