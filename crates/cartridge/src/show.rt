@@ -1,5 +1,5 @@
 use losses::fault::ReadFault;
-use losses::sheet::LossSheet;
+use losses::sheet::{LossRow, LossSheet};
 use std::io;
 use writing::fault::WriteFault;
 
@@ -7,16 +7,13 @@ use writing::fault::WriteFault;
 pub(crate) fn print_sheet(rt: &impl Print, sheet: &LossSheet) -> io::Result<()> {
     let mut read = 0usize;
     for t in 0..46 {
-        if let Some(row) = sheet.row(t) {
-            let cause = row.cause;
-            if cause.is_loss() {
+        let LossRow { cause, m, n } = sheet.finding(t);
+        match cause {
+            Some(cause) => {
                 let number = cause.number();
-                let m = row.m;
-                let n = row.n;
                 println!(rt; "    track {t}: cause {number}, {cause:?}, m {m}, n {n}")?;
-            } else {
-                read = read.saturating_add(1);
             }
+            None => read = read.saturating_add(1),
         }
     }
     println!(rt; "    {read} tracks read")

@@ -1,6 +1,7 @@
 -- Bytes in the place of others.
 use Rattle.std.proofs.Common.{◌≡◌, ℕ, ◌+◌, ◌<◌, ◌≤◌, List, [], ◌∷◌, ◌++◌, length, take, drop, set, sym, refl, ap, ◌∙◌, ap₂, add-zero, arith, length-append, length-drop}
 use Rattle.std.proofs.lemmas.List.{append_assoc, take-append-drop, take_at, drop_at, drop-drop, drop_more, length-take-le}
+use borrow.Rule.Slice.PartMut.{put_mid}
 use Rattle.index.specs.Writing.{replaced}
 
 pub replaced-none : (g : List ℕ) (at : ℕ) → replaced g at [] ≡ g
@@ -68,3 +69,10 @@ replaced-middle xs ys zs ws at e h =
 pub replaced-then : (g h k : List ℕ) (at b : ℕ) (xs ys : List ℕ) → h ≡ replaced g at xs → k ≡ replaced h b ys → b ≡ at + length xs → b + length ys ≤ length g
     → k ≡ replaced g at (xs ++ ys)
 replaced-then g h k at b xs ys p q e l = q ∙ (ap (λ (x : List ℕ). replaced x b ys) p ∙ replaced-replaced g at b xs ys e l)
+
+-- a part written anew
+pub replaced-mid : (g xs ys : List ℕ) (at k : ℕ) → k ≡ length ys → xs ≡ ys → put_mid at k g xs ≡ replaced g at ys
+unfolding replaced
+replaced-mid g xs ys at k e p =
+    ap (λ (x : List ℕ). take at g ++ (x ++ drop k (drop at g))) p
+    ∙ ap (λ (x : List ℕ). take at g ++ (ys ++ x)) (drop-drop k at g ∙ ap (λ (n : ℕ). drop n g) (ap (λ n. at + n) e))

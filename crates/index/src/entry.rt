@@ -1,4 +1,4 @@
-ghost use Rattle.std.specs.Prelude.{◌≡◌, ◌<◌, [], length, if◌then◌else◌, MatchOption};
+ghost use Rattle.std.specs.Prelude.{◌≡◌, ◌<◌, true, false, [], length, if◌then◌else◌, MatchOption};
 ghost use Rattle.index.specs.Bytes.{named, EntryTaken};
 ghost use Rattle.index.specs.Contents.{kind_in, bytes_in, place_in};
 
@@ -67,16 +67,26 @@ impl<'a> Content<'a> {
         }
     }
 
+    /// The part that the entry names, if it names one.
+    pub fn part(self) -> Option<Part<'a>>
+        ensures { MatchOption result (named (kind_in self.entry) ≡ false) (λ p. (named (kind_in self.entry) ≡ true) × (p.bytes.now ≡ bytes_in self.entry) × (p.place ≡ place_in self.entry)) }
+    {
+        match self {
+            Content::Middle(part)
+            | Content::Start(part)
+            | Content::Last(part)
+            | Content::Entire(part) => Some(part),
+            _ => None,
+        }
+    }
+
     /// How many user bytes the entry names.
     pub fn length(self) -> usize
         ensures { result ≡ length (bytes_in self.entry) }
     {
-        match self {
-            Content::Middle(part) => part.bytes.len(),
-            Content::Start(part) => part.bytes.len(),
-            Content::Last(part) => part.bytes.len(),
-            Content::Entire(part) => part.bytes.len(),
-            _ => 0,
+        match self.part() {
+            Some(part) => part.bytes.len(),
+            None => 0,
         }
     }
 }

@@ -3,31 +3,47 @@ ghost use Rattle.index.specs.Bytes.{kind_of, flag_of};
 ghost use Rattle.index.specs.Succession.{known};
 
 /// What an entry of an index is, by its flag.
-#[derive(Clone, Copy)]
+#[derive(Clone, Copy, PartialEq, Eq, Debug)]
 pub enum Kind {
     /// The bytes of a whole record whose last part stands before.
-    Total,
+    Total = 0x01,
     /// A mark.
-    Mark,
+    Mark = 0x07,
     /// A part of a record that neither begins nor ends it.
-    Middle,
+    Middle = 0x40,
     /// The first part of a record.
-    Start,
+    Start = 0x42,
     /// The last part of a record.
-    Last,
+    Last = 0x60,
     /// A record that stands whole in its group.
-    Entire,
+    Entire = 0x63,
     /// The end of the index.
-    Skip,
+    Skip = 0x80,
     /// A flag without a meaning.
-    Unknown,
+    Unknown = 0,
 }
 
 impl Kind {
-    /// The kind of a flag without a warning.
-    pub fn of_flag(flag: u8) -> Kind
-        ensures { result ≡ kind_of flag }
+    /// The flag without a warning; 0, which has no meaning, where there is none.
+    pub fn flag(self) -> u8
+        ensures { result ≡ flag_of self }
     {
+        self as u8
+    }
+
+    /// Whether the flag has a meaning.
+    pub fn is_known(self) -> bool
+        ensures { result ≡ known self }
+    {
+        !matches!(self, Kind::Unknown)
+    }
+}
+
+impl From<u8> for Kind {
+    ghost from_gives = { λ flag kind. kind ≡ kind_of flag };
+
+    /// The kind of a flag without a warning.
+    fn from(flag: u8) -> Kind {
         match flag {
             0x01 => Kind::Total,
             0x07 => Kind::Mark,
@@ -37,32 +53,6 @@ impl Kind {
             0x63 => Kind::Entire,
             0x80 => Kind::Skip,
             _ => Kind::Unknown,
-        }
-    }
-
-    /// The flag without a warning; 0, which has no meaning, where there is none.
-    pub fn flag(self) -> u8
-        ensures { result ≡ flag_of self }
-    {
-        match self {
-            Kind::Total => 0x01,
-            Kind::Mark => 0x07,
-            Kind::Middle => 0x40,
-            Kind::Start => 0x42,
-            Kind::Last => 0x60,
-            Kind::Entire => 0x63,
-            Kind::Skip => 0x80,
-            Kind::Unknown => 0,
-        }
-    }
-
-    /// Whether the flag has a meaning.
-    pub fn is_known(self) -> bool
-        ensures { result ≡ known self }
-    {
-        match self {
-            Kind::Unknown => false,
-            _ => true,
         }
     }
 }

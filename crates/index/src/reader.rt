@@ -82,7 +82,7 @@ impl<'a> IndexReader<'a> {
         }
         let (flag, count, rest) = take_entry(self.index)?;
         let warned = flag / 8 % 2;
-        let kind = Kind::of_flag(flag - 8 * warned);
+        let kind = Kind::from(flag - 8 * warned);
         let bytes = part_at(self.group, self.place, count);
         let content = Content::new(
             kind,

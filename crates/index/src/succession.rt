@@ -24,10 +24,10 @@ impl State {
     {
         match self {
             State::Idle => 0,
-            State::Begun { length, .. } => length,
-            State::Inside { length, .. } => length,
-            State::Owing { length, .. } => length,
-            State::Owed { length, .. } => length,
+            State::Begun { length, .. }
+            | State::Inside { length, .. }
+            | State::Owing { length, .. }
+            | State::Owed { length, .. } => length,
         }
     }
 
@@ -35,9 +35,6 @@ impl State {
     pub fn is_idle(self) -> bool
         ensures { result ≡ is_idle self }
     {
-        match self {
-            State::Idle => true,
-            _ => false,
-        }
+        matches!(self, State::Idle)
     }
 }

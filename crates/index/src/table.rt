@@ -1,5 +1,5 @@
-ghost use Rattle.std.specs.Prelude.{◌≡◌, ℕ, ◌+◌, ◌<◌, ◌≤◌, length};
-ghost use Rattle.index.specs.Bytes.{number, empty};
+ghost use Rattle.std.specs.Prelude.{◌≡◌, ℕ, ◌+◌, ◌<◌, ◌≤◌, ◌↔◌, length, IsTrue, EachIndex, slice_index};
+ghost use Rattle.index.specs.Bytes.{number};
 ghost use Rattle.index.specs.Counted.{table_in, table_checked, totals_checked};
 
 use crate::fault::IndexFault;
@@ -25,7 +25,7 @@ pub fn u16_at(group: &[u8], at: usize) -> u16
     requires { at + 1 < length group.now }
     ensures { result ≡ number 2 at group.now }
 {
-    (group[at] as u16) * 256 + group[at + 1] as u16
+    u16::from_be_bytes([group[at], group[at + 1]])
 }
 
 /// The number of four bytes, the highest first.
@@ -33,20 +33,14 @@ fn u32_at(group: &[u8], at: usize) -> u32
     requires { at + 3 < length group.now }
     ensures { result ≡ number 4 at group.now }
 {
-    (u16_at(group, at) as u32) * 65536 + u16_at(group, at + 2) as u32
+    u32::from_be_bytes([group[at], group[at + 1], group[at + 2], group[at + 3]])
 }
 
-/// Whether a group's last 15 bytes are 0.
-fn ends_in_zeros(group: &[u8]) -> bool
-    requires { length group.now ≡ 126632 }
-    ensures { result ≡ empty group.now 126617 15 }
+/// Whether all bytes are 0.
+fn are_zeros(bytes: &[u8]) -> bool
+    ensures { IsTrue result ↔ EachIndex bytes.now (λ k. slice_index bytes.now k ≡ 0) }
 {
-    for i in 126617..126632 {
-        if group[i] != 0 {
-            return false;
-        }
-    }
-    true
+    bytes.iter().all(|byte| *byte == 0)
 }
 
 impl Table {
@@ -65,7 +59,7 @@ impl Table {
             entries: u16_at(group, 126602),
             counts,
             last: group[126616],
-            zeros: ends_in_zeros(group),
+            zeros: are_zeros(&group[126617..126632]),
         }
     }
 

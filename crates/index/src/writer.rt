@@ -20,9 +20,7 @@ fn put_bytes(group: &mut [u8], at: usize, bytes: &[u8])
     requires { at + length bytes.now ≤ length group.old }
     ensures { group.new ≡ replaced group.old at bytes.now }
 {
-    for (i, byte) in bytes.iter().enumerate() {
-        group[at + i] = *byte;
-    }
+    group[at..at + bytes.len()].copy_from_slice(bytes);
 }
 
 /// Writes a number of two bytes, the higher first.
@@ -30,11 +28,7 @@ fn put_u16(group: &mut [u8], at: usize, number: u16)
     requires { at + 2 ≤ length group.old }
     ensures { group.new ≡ replaced group.old at (two number) }
 {
-    put_bytes(
-        group,
-        at,
-        &[(number / 256 % 256) as u8, (number % 256) as u8],
-    );
+    put_bytes(group, at, &number.to_be_bytes());
 }
 
 /// Writes a number of four bytes, the highest first.
@@ -42,13 +36,7 @@ fn put_u32(group: &mut [u8], at: usize, number: u32)
     requires { at + 4 ≤ length group.old }
     ensures { group.new ≡ replaced group.old at (four number) }
 {
-    let bytes = [
-        (number / 256 / 256 / 256 % 256) as u8,
-        (number / 256 / 256 % 256) as u8,
-        (number / 256 % 256) as u8,
-        (number % 256) as u8,
-    ];
-    put_bytes(group, at, &bytes);
+    put_bytes(group, at, &number.to_be_bytes());
 }
 
 /// Writes the four bytes of an entry.
@@ -56,13 +44,8 @@ fn put_entry(group: &mut [u8], at: usize, kind: Kind, warned: u8, count: u32)
     requires { (at + 4 ≤ length group.old) × (warned < 2) }
     ensures { group.new ≡ replaced group.old at (entry_bytes (record { kind = kind; count = count; warned = warned; bytes = [] })) }
 {
-    let bytes = [
-        kind.flag() + 8 * warned,
-        (count / 256 / 256 % 256) as u8,
-        (count / 256 % 256) as u8,
-        (count % 256) as u8,
-    ];
-    put_bytes(group, at, &bytes);
+    let [_, high, middle, low] = count.to_be_bytes();
+    put_bytes(group, at, &[kind.flag() + 8 * warned, high, middle, low]);
 }
 
 /// Writes 15 zeros at the end of a group.

@@ -13,7 +13,7 @@ overflow_add-self c =
     let r = c.args.self.now in
     let p : r.place < 2 ^ 64 = search rules in
     let g : length r.group.now < 2 ^ 64 = search rules in
-    let k = named c.of_flag-kind.result in
+    let k = named c.from-kind.result in
     let f = place-fits r.group.now r.place c.in_ok-flag.count k p g in
     let e : c.length.result ≡ length (cond k (take c.in_ok-flag.count (drop r.place r.group.now)) []) =
     c.length.ensures ∙ ap length (c.new-content.ensures.bytes ∙ ap (λ (x : List ℕ). cond k x []) c.part_at-bytes.ensures) in
@@ -29,7 +29,7 @@ returns c =
     let n = c.in_ok-flag.count in
     let xs = c.in_ok-flag.rest.now in
     let new = c.new-content.ensures in
-    let k = new.kind ∙ c.of_flag-kind.ensures in
+    let k = new.kind ∙ c.from-kind.ensures in
     let b = new.bytes ∙ ap (λ (x : Kind). cond (named x) c.part_at-bytes.result.now []) (sym new.kind) in
     let e = read-coming u f n xs t (kind_in c.new-content.result) (bytes_in c.new-content.result) c.part_at-bytes.result.now k c.part_at-bytes.ensures b in
     record {
