@@ -1,8 +1,10 @@
 -- Going through the entries of an index.
-use Rattle.std.specs.Prelude.{◌≡◌, ℕ, ◌+◌, ◌-◌, ◌*◌, ◌≤◌, Bool, true, false, ◌&&◌, List, [], ◌∷◌, length, take, nat_le, nat_lt}
+use Rattle.std.specs.Prelude.{◌≡◌, ℕ, ◌+◌, ◌-◌, ◌*◌, ◌≤◌, Bool, true, false, cond, ◌&&◌, List, [], ◌∷◌, length, take, Option, MatchOption, nat_le, nat_lt}
 use Rattle.index.specs.declared.reader.IndexReader.{IndexReader}
+use Rattle.index.specs.declared.entry.IndexEntry.{IndexEntry}
 use Rattle.index.specs.Entries.{Entry}
-use Rattle.index.specs.Bytes.{number, read_at, read_entries, read_group}
+use Rattle.index.specs.Contents.{kind_in, place_in, meant}
+use Rattle.index.specs.Bytes.{named, number, read_at, read_entries, read_group}
 
 -- what a reader of an index holds: the group, the bytes before the entries that were read, how many entries are left,
 -- and the place of the next user byte
@@ -51,6 +53,13 @@ advanced c = record {
   left = c.left - 1;
   place = c.place + length (coming c).bytes;
 }
+
+-- a reader gives the entry that comes, with the place of its part, and stands behind it; none, where it stands still, behind
+-- the last
+pub record ReadsNext (old : IndexReader) (entry : Option IndexEntry) (new : IndexReader) : Type 0 where
+  pub answer : MatchOption entry (ahead (cursor_of old) ≡ false)
+      (λ e. (ahead (cursor_of old) ≡ true) × (meant e ≡ coming (cursor_of old)) × (place_in e.content ≡ cond (named (kind_in e.content)) old.place 0))
+  pub after : cursor_of new ≡ cond (ahead (cursor_of old)) (advanced (cursor_of old)) (cursor_of old)
 
 -- at the first entry of a group, the entries that are left are the group's
 abbrev pub ReadsGroup : Type 0

@@ -1,7 +1,6 @@
 ghost use Rattle.std.specs.Prelude.{◌≡◌, true, false, length, take, drop, if◌then◌else◌, MatchOption, ◌≢◌};
-ghost use Rattle.index.specs.Bytes.{named};
-ghost use Rattle.index.specs.Contents.{meant, place_in, kind_in};
-ghost use Rattle.index.specs.Cursors.{cursor_of, started, started_with, ahead, coming, advanced};
+ghost use Rattle.std.specs.Iterator.{at_most};
+ghost use Rattle.index.specs.Cursors.{cursor_of, started, started_with, ReadsNext};
 
 use crate::entry::{Content, IndexEntry, Part, take_entry};
 use crate::kind::Kind;
@@ -71,12 +70,17 @@ impl<'a> IndexReader<'a> {
     {
         self.left
     }
+}
+
+impl<'a> Iterator for IndexReader<'a> {
+    type Item = IndexEntry<'a>;
+
+    ghost next_gives = { ReadsNext };
+
+    ghost remaining = { λ reader. at_most reader.left };
 
     /// The next entry with the part that it names, or none behind the last.
-    pub fn next(&mut self) -> Option<IndexEntry<'a>>
-        ensures answer { MatchOption result (ahead (cursor_of self.old) ≡ false) (λ e. (ahead (cursor_of self.old) ≡ true) × (meant e ≡ coming (cursor_of self.old)) × (place_in e.content ≡ (if named (kind_in e.content) then self.old.place else 0))) }
-        ensures after { cursor_of self.new ≡ (if ahead (cursor_of self.old) then advanced (cursor_of self.old) else cursor_of self.old) }
-    {
+    fn next(&mut self) -> Option<IndexEntry<'a>> {
         if self.left == 0 {
             return None;
         }

@@ -27,7 +27,7 @@ close-requires c =
 pub returns-in_err-close : goal.returns-in_err-close
 returns-in_err-close c =
     let i = c.loop-entry.invariant in
-    let n = c.in-Some.ensures in
+    let n = c.in-Some.ensures.steps in
     let p = err_from_is_err_and c.from_residual.result c.from_residual.ensures.1 in
     p.1 ∙ (ap Err p.2 ∙ (c.in_err-close.ensures
     ∙ (sym (last_turn c.args.limit c.loop-entry.number c.loop-entry.tally (cursor_of c.loop-entry.reader) (cursor_of c.next.new.self) (meant c.in-Some.entry)
@@ -37,7 +37,7 @@ returns-in_err-close c =
 pub returns-then-left-eq0 : goal.returns-then-left-eq0
 returns-then-left-eq0 c =
     let i = c.loop-entry.invariant in
-    let n = c.in-Some.ensures in
+    let n = c.in-Some.ensures.steps in
     c.in_ok-close.ensures
     ∙ (sym (last_turn c.args.limit c.loop-entry.number c.loop-entry.tally (cursor_of c.loop-entry.reader) (cursor_of c.next.new.self) (meant c.in-Some.entry)
     i.0 n.answer.0 n.answer.1 n.after (sym c.left.ensures ∙ c.if-left-eq0.true))
@@ -46,7 +46,7 @@ returns-then-left-eq0 c =
 pub step-requires : goal.step-requires
 step-requires c =
     let i = c.loop-entry.invariant in
-    let n = c.in-Some.ensures in
+    let n = c.in-Some.ensures.steps in
     let b = turn-bytes c.args.limit c.loop-entry.number c.loop-entry.tally (cursor_of c.loop-entry.reader) (cursor_of c.next.new.self) (meant c.in-Some.entry)
     i.0 n.answer.0 n.answer.1 n.after in
     record {
@@ -63,7 +63,7 @@ step-requires c =
 pub returns-in_err-step : goal.returns-in_err-step
 returns-in_err-step c =
     let i = c.loop-entry.invariant in
-    let n = c.in-Some.ensures in
+    let n = c.in-Some.ensures.steps in
     let d = cursor_of c.next.new.self in
     let p = err_from_is_err_and c.from_residual-in_err-step.result c.from_residual-in_err-step.ensures.1 in
     p.1 ∙ (ap Err p.2
@@ -78,7 +78,7 @@ overflow_add-number c = let i = c.loop-entry.invariant in omega (arith, c.requir
 pub loop-entry-preserved : goal.loop-entry-preserved
 loop-entry-preserved c =
     let i = c.loop-entry.invariant in
-    let n = c.in-Some.ensures in
+    let n = c.in-Some.ensures.steps in
     let a = cursor_of c.loop-entry.reader in
     let d = cursor_of c.next.new.self in
     let m = meant c.in-Some.entry in
@@ -103,4 +103,4 @@ loop-entry-preserved c =
 pub returns : goal.returns
 returns c =
     let i = c.loop-entry.invariant in
-    sym (sym i.1 ∙ no-turn c.args.limit c.loop-entry.number c.loop-entry.tally (cursor_of c.loop-entry.reader) i.0 c.in_default.ensures.answer)
+    sym (sym i.1 ∙ no-turn c.args.limit c.loop-entry.number c.loop-entry.tally (cursor_of c.loop-entry.reader) i.0 c.in_default.ensures.steps.answer)

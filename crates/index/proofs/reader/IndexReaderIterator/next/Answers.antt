@@ -6,7 +6,7 @@ use Rattle.index.specs.Contents.{kind_in, bytes_in}
 use Rattle.index.specs.Entries.{Entry}
 use Rattle.index.proofs.Reading.{place-fits}
 use Rattle.index.proofs.Coming.{there, read-coming, behind-coming}
-use Rattle.index.proofs.reader.IndexReader.next.Goals as goal
+use Rattle.index.proofs.reader.IndexReaderIterator.next.Goals as goal
 
 pub overflow_add-self : goal.overflow_add-self
 overflow_add-self c =
@@ -19,8 +19,8 @@ overflow_add-self c =
     c.length.ensures ∙ ap length (c.new-content.ensures.bytes ∙ ap (λ (x : List ℕ). cond k x []) c.part_at-bytes.ensures) in
     omega arith
 
-pub returns : goal.returns
-returns c =
+pub returns-clause-steps : goal.returns-clause-steps
+returns-clause-steps c =
     let r = c.args.self.now in
     let t = c.in_ok-flag.ensures in
     let l : 0 < r.left = search rules in
