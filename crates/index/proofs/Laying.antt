@@ -1,13 +1,14 @@
 -- An entry laid into an open group, and a group completed.
-use Rattle.std.proofs.Common.{◌≡◌, ℕ, zero, suc, ◌+◌, ◌-◌, ◌*◌, ◌<◌, ◌≤◌, true, List, [], ◌∷◌, ◌++◌, length, sym, refl, ap, ◌∙◌, ap₂, arith, length-append}
+use Rattle.std.proofs.Common.{◌≡◌, ℕ, zero, suc, ◌+◌, ◌-◌, ◌*◌, ◌<◌, ◌≤◌, Bool, true, false, cond, eqb, ltb, leb, Ok, Err, List, [], ◌∷◌, ◌++◌, length, sym, refl, ap, ◌∙◌, ap₂, arith, length-append}
 use Rattle.std.proofs.lemmas.List.{append-nil, append_assoc}
 use Rattle.std.proofs.lemmas.Bool.{eqb-true, ltb-true, leb-true, and_parts}
 use Rattle.index.specs.declared.table.Table.{Table}
 use Rattle.index.specs.declared.tally.Counts.{Counts}
 use Rattle.index.specs.declared.writer.Fill.{Fill}
+use Rattle.index.specs.declared.fault.LayFault.TheVariants.{GroupLength, Warning, NoRoom}
 use Rattle.index.specs.Entries.{Entry, Group, used}
 use Rattle.index.specs.Bytes.{zeros, entry_bytes, index_bytes, user_bytes, table_bytes, group_of}
-use Rattle.index.specs.Writing.{replaced, open_group, Filled, fits, entry_place, entry_laid, table_of, skip_of, completed, group_with, OpensEmpty}
+use Rattle.index.specs.Writing.{replaced, open_group, Filled, laying, entry_place, entry_laid, table_of, skip_of, completed, group_with, OpensEmpty}
 use Rattle.index.proofs.Walks.{used-snoc, length-snoc}
 use Rattle.index.proofs.Reread.{length-bytes, length-entries, length-zeros}
 use Rattle.index.proofs.Replacing.{replaced-middle}
@@ -69,11 +70,16 @@ entry-laid g f ps p h r =
     left = 126600 - used (ps ++ (p ∷ [])) - 4 * length (ps ++ (p ∷ []))
 
 -- room for an entry
-pub has_room : (g : List ℕ) (f : Fill) (n w : ℕ) → fits g f n w ≡ true → (length g ≡ 126632) × (w < 2) × (f.used + n + 4 * (f.entries + 1) ≤ 126600)
+pub has_room : (g : List ℕ) (f : Fill) (n w : ℕ) → Ok (tt {0}) ≡ laying g f n w → (length g ≡ 126632) × (w < 2) × (f.used + n + 4 * (f.entries + 1) ≤ 126600)
 has_room g f n w e =
-    let a = and_parts _ _ e in
-    let b = and_parts _ _ a.1 in
-    (eqb-true (length g) 126632 a.0, ltb-true w 2 b.0, leb-true _ 126600 b.1)
+    let t = tests (eqb (length g) 126632) (ltb w 2) (leb (f.used + n + 4 * (f.entries + 1)) 126600) e in
+    (eqb-true (length g) 126632 t.0, ltb-true w 2 t.1, leb-true _ 126600 t.2)
+  where
+    tests : (a b c : Bool) → Ok (tt {0}) ≡ cond a (cond b (cond c (Ok (tt {0})) (Err NoRoom)) (Err Warning)) (Err GroupLength) → (a ≡ true) × (b ≡ true) × (c ≡ true)
+    tests true true true e = (refl, refl, refl)
+    tests true true false e = absurd (let no : ◌≡◌ {A = ℕ} 0 1 = cc in omega arith)
+    tests true false c e = absurd (let no : ◌≡◌ {A = ℕ} 0 1 = cc in omega arith)
+    tests false b c e = absurd (let no : ◌≡◌ {A = ℕ} 0 1 = cc in omega arith)
 
 -- a table in the place of an empty one
 table-put : (ps : List Entry) (g : Group) → g.entries ≡ ps → used ps + 4 * length ps ≤ 126600 → length (table_bytes g) ≡ 32

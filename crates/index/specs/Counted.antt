@@ -1,5 +1,5 @@
 -- Walking a group by numbers alone: of the items their numbers, of the open record the sum of its parts.
-use Rattle.std.specs.Prelude.{◌≡◌, ℕ, suc, ◌+◌, ◌-◌, ◌*◌, ◌^◌, ◌<◌, ◌≤◌, cond, ◌&&◌, List, [], ◌∷◌, length, Ok, Err, Result, ◌==◌, nat_le, nat_lt, slice_index}
+use Rattle.std.specs.Prelude.{◌≡◌, ℕ, suc, ◌+◌, ◌-◌, ◌*◌, ◌^◌, ◌<◌, ◌≤◌, min, cond, ◌&&◌, List, [], ◌∷◌, length, Ok, Err, Result, ◌==◌, nat_le, nat_lt, slice_index}
 use Rattle.index.specs.declared.kind.Kind.{Kind}
 use Rattle.index.specs.declared.fault.IndexFault.{IndexFault}
 use Rattle.index.specs.declared.fault.IndexFault.TheVariants.{GroupNumber, EntryCount, LastByte, TableZeros, Flag, Succession, Count, Totals, OpenRecord}
@@ -23,6 +23,10 @@ counted c k n = record {
   ones = c.ones + cond (marks k && n == 0) 1 0;
   twos = c.twos + cond (marks k && n == 1) 1 0;
 }
+
+-- these numbers as 32 bits hold them: none above 4,294,967,295
+abbrev pub capped : Counts → Counts
+capped c = record { items = min c.items 4294967295; ones = min c.ones 4294967295; twos = min c.twos 4294967295 }
 
 -- a walk within a group, by numbers
 abbrev pub tally_of : Walk → Tally

@@ -1,5 +1,7 @@
 -- Writing an index: bytes put in the place of others, and an open group as it fills.
-use Rattle.std.specs.Prelude.{◌≡◌, ℕ, ◌+◌, ◌-◌, ◌*◌, Bool, true, ◌&&◌, List, [], ◌∷◌, ◌++◌, length, take, drop, ◌==◌, nat_le, nat_lt}
+use Rattle.std.specs.Prelude.{◌≡◌, ℕ, ◌+◌, ◌-◌, ◌*◌, Bool, true, cond, ◌&&◌, List, [], ◌∷◌, ◌++◌, length, take, drop, Ok, Err, Result, ◌==◌, nat_le, nat_lt}
+use Rattle.index.specs.declared.fault.LayFault.{LayFault}
+use Rattle.index.specs.declared.fault.LayFault.TheVariants.{GroupLength, Warning, NoRoom}
 use Rattle.index.specs.declared.kind.Kind.TheVariants.{Skip}
 use Rattle.index.specs.declared.table.Table.{Table}
 use Rattle.index.specs.declared.tally.Counts.{Counts}
@@ -21,9 +23,12 @@ pub record Filled (g : List ℕ) (f : Fill) (ps : List Entry) : Type 0 where
   pub entries : f.entries ≡ length ps
   pub used' : f.used ≡ used ps
 
--- there is room for an entry and n user bytes, the warning is 0 or 1, and the group has its length
-abbrev pub fits : List ℕ → Fill → ℕ → ℕ → Bool
-fits g f n w = length g == 126632 && (nat_lt w 2 && nat_le (f.used + n + 4 * (f.entries + 1)) 126600)
+-- whether an entry with n user bytes and the warning w is laid into an open group, or why not, in the order of looking
+abbrev pub laying : List ℕ → Fill → ℕ → ℕ → Result (Unit {0}) LayFault
+laying g f n w =
+    cond (length g == 126632)
+    (cond (nat_lt w 2) (cond (nat_le (f.used + n + 4 * (f.entries + 1)) 126600) (Ok tt) (Err NoRoom)) (Err Warning))
+    (Err GroupLength)
 
 -- the place of the next entry
 abbrev pub entry_place : Fill → ℕ

@@ -45,6 +45,17 @@ impl IndexFault {
     }
 }
 
+/// Why an entry is not laid into an open group.
+#[derive(Clone, Copy, PartialEq, Eq, Debug)]
+pub enum LayFault {
+    /// The group does not have 126,632 bytes.
+    GroupLength,
+    /// The warning is neither 0 nor 1.
+    Warning,
+    /// The group has no room for the entry and its bytes.
+    NoRoom,
+}
+
 /// Why a group is not walked to its end.
 #[derive(Clone, Copy, PartialEq, Eq, Debug)]
 pub enum GroupFault {

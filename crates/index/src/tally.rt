@@ -1,7 +1,7 @@
 ghost use Rattle.std.specs.Prelude.{◌≡◌, ℕ, ◌+◌, ◌-◌, ◌^◌, ◌<◌, ◌≤◌, length, if◌then◌else◌};
 ghost use Rattle.index.specs.Succession.{permits, moved, ends, ended, parts_sum, count_fits};
 ghost use Rattle.index.specs.Contents.{meant, bytes_in};
-ghost use Rattle.index.specs.Counted.{counted, stepped, closed, outcome, Small};
+ghost use Rattle.index.specs.Counted.{counted, capped, stepped, closed, outcome, Small};
 
 use crate::entry::IndexEntry;
 use crate::fault::IndexFault;
@@ -26,23 +26,31 @@ pub struct Tally {
 }
 
 impl Counts {
-    /// Counts what an entry finishes.
-    fn add(&mut self, kind: Kind, count: u32)
-        requires { (self.old.items < 2 ^ 32 - 1) × ((self.old.ones < 2 ^ 32 - 1) × (self.old.twos < 2 ^ 32 - 1)) }
-        ensures { self.new ≡ counted self.old kind count }
+    /// The numbers after an entry; a number that has reached the end of its type stays there.
+    pub fn after(self, kind: Kind, count: u32) -> Counts
+        ensures { result ≡ capped (counted self kind count) }
     {
-        match kind {
-            Kind::Total | Kind::Entire => self.items += 1,
-            Kind::Mark => {
-                self.items += 1;
-                if count == 0 {
-                    self.ones += 1;
-                }
-                if count == 1 {
-                    self.twos += 1;
-                }
-            }
-            _ => {}
+        let Counts { items, ones, twos } = self;
+        match (kind, count) {
+            (Kind::Total | Kind::Entire, _) => Counts {
+                items: items.saturating_add(1),
+                ..self
+            },
+            (Kind::Mark, 0) => Counts {
+                items: items.saturating_add(1),
+                ones: ones.saturating_add(1),
+                ..self
+            },
+            (Kind::Mark, 1) => Counts {
+                items: items.saturating_add(1),
+                twos: twos.saturating_add(1),
+                ..self
+            },
+            (Kind::Mark, _) => Counts {
+                items: items.saturating_add(1),
+                ..self
+            },
+            _ => self,
         }
     }
 }
@@ -145,7 +153,7 @@ impl Tally {
             return Err(IndexFault::Count { entry: number });
         }
         self.used += part;
-        self.counts.add(kind, entry.count);
+        self.counts = self.counts.after(kind, entry.count);
         Ok(())
     }
 

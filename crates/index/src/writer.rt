@@ -1,8 +1,9 @@
-ghost use Rattle.std.specs.Prelude.{◌≡◌, ℕ, ◌+◌, ◌-◌, ◌*◌, ◌<◌, ◌≤◌, true, List, [], ◌∷◌, ◌++◌, length, if◌then◌else◌, nat_le};
+ghost use Rattle.std.specs.Prelude.{◌≡◌, ℕ, ◌+◌, ◌-◌, ◌*◌, ◌<◌, ◌≤◌, List, [], ◌∷◌, ◌++◌, length, if◌then◌else◌, is_ok, OnOk, nat_le};
 ghost use Rattle.index.specs.Entries.{Entry};
 ghost use Rattle.index.specs.Bytes.{zeros, two, four, entry_bytes, group_of};
-ghost use Rattle.index.specs.Writing.{replaced, Filled, fits, entry_laid, completed, table_of, group_with, open_group};
+ghost use Rattle.index.specs.Writing.{replaced, Filled, laying, entry_laid, completed, table_of, group_with, open_group};
 
+use crate::fault::LayFault;
 use crate::kind::Kind;
 use crate::reader::{GROUP_BYTES, TABLE};
 use crate::table::Table;
@@ -80,8 +81,23 @@ fn has_room(fill: Fill, bytes: usize) -> bool
     fill.used + bytes + 4 * (fill.entries as usize + 1) <= TABLE
 }
 
-/// Lays an entry with its user bytes into an open group. It writes nothing, and answers false, where the group does not
-/// have 126,632 bytes, the warning is neither 0 nor 1, or there is no room.
+/// Tests whether an entry with so many user bytes can be laid into an open group.
+fn check_room(group: &[u8], fill: Fill, bytes: usize, warned: u8) -> Result<(), LayFault>
+    ensures { result ≡ laying group.now fill bytes warned }
+{
+    if group.len() != GROUP_BYTES {
+        return Err(LayFault::GroupLength);
+    }
+    if warned > 1 {
+        return Err(LayFault::Warning);
+    }
+    if !has_room(fill, bytes) {
+        return Err(LayFault::NoRoom);
+    }
+    Ok(())
+}
+
+/// Lays an entry with its user bytes into an open group, or leaves the group as it was.
 pub fn lay_entry(
     group: &mut [u8],
     fill: Fill,
@@ -89,20 +105,12 @@ pub fn lay_entry(
     warned: u8,
     count: u32,
     bytes: &[u8],
-) -> bool
-    ensures answer { result ≡ fits group.old fill (length bytes.now) warned }
-    ensures held { group.new ≡ (if result then entry_laid group.old fill (record { kind = kind; count = count; warned = warned; bytes = bytes.now }) else group.old) }
-    ensures laid { (ps : List Entry) → Filled group.old fill ps → result ≡ true → group.new ≡ open_group (ps ++ (record { kind = kind; count = count; warned = warned; bytes = bytes.now } ∷ [])) }
+) -> Result<(), LayFault>
+    ensures answer { result ≡ laying group.old fill (length bytes.now) warned }
+    ensures held { group.new ≡ (if is_ok result then entry_laid group.old fill (record { kind = kind; count = count; warned = warned; bytes = bytes.now }) else group.old) }
+    ensures laid { (ps : List Entry) → Filled group.old fill ps → OnOk result (group.new ≡ open_group (ps ++ (record { kind = kind; count = count; warned = warned; bytes = bytes.now } ∷ []))) }
 {
-    if group.len() != GROUP_BYTES {
-        return false;
-    }
-    if warned > 1 {
-        return false;
-    }
-    if !has_room(fill, bytes.len()) {
-        return false;
-    }
+    check_room(group, fill, bytes.len(), warned)?;
     put_bytes(group, fill.used, bytes);
     put_entry(
         group,
@@ -111,11 +119,10 @@ pub fn lay_entry(
         warned,
         count,
     );
-    true
+    Ok(())
 }
 
-/// Completes an open group with its skip and its table. It writes nothing, and answers false, where the group does not
-/// have 126,632 bytes, the warning is neither 0 nor 1, or there is no room for the skip.
+/// Completes an open group with its skip and its table, or leaves the group as it was.
 pub fn complete_group(
     group: &mut [u8],
     fill: Fill,
@@ -123,18 +130,14 @@ pub fn complete_group(
     number: u16,
     counts: Counts,
     last: u8,
-) -> bool
-    ensures answer { result ≡ fits group.old fill 0 warned }
-    ensures held { group.new ≡ (if result then completed group.old fill warned number counts last else group.old) }
-    ensures laid { (ps : List Entry) → Filled group.old fill ps → result ≡ true → group.new ≡ group_of (group_with ps warned number counts last) }
+) -> Result<(), LayFault>
+    ensures answer { result ≡ laying group.old fill 0 warned }
+    ensures held { group.new ≡ (if is_ok result then completed group.old fill warned number counts last else group.old) }
+    ensures laid { (ps : List Entry) → Filled group.old fill ps → OnOk result (group.new ≡ group_of (group_with ps warned number counts last)) }
 {
-    if !has_room(fill, 0) {
-        return false;
-    }
+    check_room(group, fill, 0, warned)?;
     let count = (GROUP_BYTES - fill.used) as u32;
-    if !lay_entry(group, fill, Kind::Skip, warned, count, &[]) {
-        return false;
-    }
+    lay_entry(group, fill, Kind::Skip, warned, count, &[])?;
     let entries = fill.entries + 1;
     put_table(
         group,
@@ -146,5 +149,5 @@ pub fn complete_group(
             zeros: true,
         },
     );
-    true
+    Ok(())
 }
