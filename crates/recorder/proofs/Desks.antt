@@ -1,9 +1,11 @@
 -- Steps on an open recording and its tape.
-use Rattle.std.proofs.Common.{◌≡◌, ℕ, ◌+◌, ◌*◌, ◌<◌, ◌≤◌, Bool, true, cond, ◌&&◌, eqb, ltb, leb, List, [], length, replicate, Ok, ap, ◌∙◌, ap₂, arith}
+use Rattle.std.proofs.Common.{◌≡◌, ℕ, ◌+◌, ◌*◌, ◌<◌, ◌≤◌, Bool, true, cond, ◌&&◌, eqb, ltb, leb, List, [], length, replicate, Ok, Result, ap, ◌∙◌, ap₂, arith}
 use Rattle.std.proofs.lemmas.Bool.{cond-true, eq-eqb}
 use Rattle.std.proofs.lemmas.Bool.Decides.{nat_tests}
 use Rattle.writing.specs.Groups.{Answer as Written, lent, reached, and_then as after, outcome as written, with_group}
-use Rattle.index.specs.Writing.{fits}
+use Rattle.std.specs.Result.{is_ok}
+use Rattle.index.specs.declared.fault.LayFault.{LayFault}
+use Rattle.index.specs.Writing.{laying}
 use Rattle.tape.specs.Tape.{Track}
 use Rattle.channel.specs.Line.{Code}
 use Rattle.index.specs.declared.kind.Kind.TheVariants.{Last, Total}
@@ -29,19 +31,28 @@ pub laid-then-total : (c : Code) (n : ℕ) (bs : List ℕ) (h : Held) (ts us : L
 laid-then-total c n bs h ts us h₁ h₂ h₃ p q r = ap (λ (x : Held). desk x us) r ∙ ap (λ (d : Desk). put Total n [] d) (q ∙ ap (λ (x : Held). room c 4 (desk x ts)) p)
 
 -- a group that is completed and written
-pub group-taped : (c : Code) (h : Held) (ts us : List Track) (last buffer bench : ℕ) (g : List ℕ) (r : Bool) (a : Written)
+pub group-taped : (c : Code) (h : Held) (ts us : List Track) (last buffer bench : ℕ) (g : List ℕ) (r : Result (Unit {0}) LayFault) (a : Written)
     → length h.group ≡ 126632 → h.book.warned < 2 → h.book.fill.used + 4 * h.book.fill.entries ≤ 126596
     → h.book.settings.tap < 32768 → h.book.settings.start < 32768 → 1 ≤ h.book.number → 46 * h.book.number ≤ length ts
-    → buffer ≡ 4608 → bench ≡ 138048 → r ≡ fits h.group h.book.fill 0 h.book.warned → g ≡ cond r (closing last h) h.group → length g ≡ length h.group
+    → buffer ≡ 4608 → bench ≡ 138048 → r ≡ laying h.group h.book.fill 0 h.book.warned → g ≡ cond (is_ok r) (closing last h) h.group → length g ≡ length h.group
     → a ≡ after (lent buffer h.book.settings.tap h.book.settings.start (length g) bench) (reached h.book.number (length ts))
     → us ≡ written a (with_group c h.book.settings.tap h.book.settings.start h.book.number g ts) ts → us ≡ taped c last (desk h ts)
 group-taped c h ts us last buffer bench g r a size warn fit tap start one there bf bn rr gg gl aa uu =
     uu
     ∙ (ap (λ (x : Written). written x (with_group c h.book.settings.tap h.book.settings.start h.book.number g ts) ts) (aa ∙ passes)
-    ∙ ap (λ (x : List ℕ). with_group c h.book.settings.tap h.book.settings.start h.book.number x ts) (gg ∙ cond-true r _ _ (rr ∙ room')))
+    ∙ ap (λ (x : List ℕ). with_group c h.book.settings.tap h.book.settings.start h.book.number x ts) (gg ∙ cond-true (is_ok r) _ _ (ap is_ok (rr ∙ room'))))
   where
-    room' : fits h.group h.book.fill 0 h.book.warned ≡ true
-    room' = grind (arith, nat_tests)
+    s₁ : eqb (length h.group) 126632 ≡ true
+    s₁ = eq-eqb (length h.group) 126632 size
+
+    s₂ : ltb h.book.warned 2 ≡ true
+    s₂ = grind (arith, nat_tests)
+
+    s₃ : leb (h.book.fill.used + 0 + 4 * (h.book.fill.entries + 1)) 126600 ≡ true
+    s₃ = grind (arith, nat_tests)
+
+    room' : laying h.group h.book.fill 0 h.book.warned ≡ Ok tt
+    room' = cond-true _ _ _ s₁ ∙ (cond-true _ _ _ s₂ ∙ cond-true _ _ _ s₃)
 
     t₁ : eqb buffer 4608 ≡ true
     t₁ = eq-eqb buffer 4608 bf

@@ -1,5 +1,4 @@
 ghost use Rattle.std.specs.Prelude.{◌≡◌, ℕ, ◌+◌, ◌-◌, ◌*◌, ◌/◌, ◌<◌, ◌≤◌};
-ghost use Rattle.index.specs.Counted.{counted};
 ghost use Rattle.calls.specs.Held.{free, entered, turned, alerted, roomed, record_ends, mark_ends};
 ghost use Rattle.recorder.specs.Views.{book_of};
 
@@ -14,28 +13,6 @@ const ROOM: usize = 126596;
 
 /// The user bytes of a part that fills a group.
 const FULL_PART: usize = 126592;
-
-/// The totals after an entry of this kind and count.
-fn counted(counts: Counts, kind: Kind, count: u32) -> Counts
-    requires { (counts.items < 4294967295) × ((counts.ones < 4294967295) × (counts.twos < 4294967295)) }
-    ensures { result ≡ counted counts kind count }
-{
-    let mut counts = counts;
-    match kind {
-        Kind::Total | Kind::Entire => counts.items += 1,
-        Kind::Mark => {
-            counts.items += 1;
-            if count == 0 {
-                counts.ones += 1;
-            }
-            if count == 1 {
-                counts.twos += 1;
-            }
-        }
-        _ => {}
-    }
-    counts
-}
 
 impl Ledger {
     /// The ledger of a new recording.
@@ -67,21 +44,14 @@ impl Ledger {
     }
 
     /// The ledger with an entry of this kind and count that names so many bytes.
-    pub(crate) fn entered(self, kind: Kind, count: u32, size: usize) -> Ledger
+    pub(crate) fn entered(mut self, kind: Kind, count: u32, size: usize) -> Ledger
         requires { self.fill.used + size + 4 * (self.fill.entries + 1) ≤ 126596 }
         ensures { book_of result ≡ entered kind count size (book_of self) }
     {
-        Ledger {
-            settings: self.settings,
-            limit: self.limit,
-            number: self.number,
-            fill: Fill {
-                entries: self.fill.entries + 1,
-                used: self.fill.used + size,
-            },
-            counts: counted(self.counts, kind, count),
-            warned: self.warned,
-        }
+        self.fill.entries += 1;
+        self.fill.used += size;
+        self.counts = self.counts.after(kind, count);
+        self
     }
 
     /// The number of the open group and what is free, where an item that needs so much begins.
@@ -119,34 +89,23 @@ impl Ledger {
     }
 
     /// The ledger at the next group.
-    pub(crate) fn turned(self) -> Ledger
+    pub(crate) fn turned(mut self) -> Ledger
         requires { self.number < self.limit }
         ensures { book_of result ≡ turned (book_of self) }
     {
-        Ledger {
-            settings: self.settings,
-            limit: self.limit,
-            number: self.number + 1,
-            fill: Fill {
-                entries: 0,
-                used: 0,
-            },
-            counts: self.counts,
-            warned: self.warned,
-        }
+        self.number += 1;
+        self.fill = Fill {
+            entries: 0,
+            used: 0,
+        };
+        self
     }
 
     /// The ledger after a warning.
-    pub(crate) fn alerted(self) -> Ledger
+    pub(crate) fn alerted(mut self) -> Ledger
         ensures { book_of result ≡ alerted (book_of self) }
     {
-        Ledger {
-            settings: self.settings,
-            limit: self.limit,
-            number: self.number,
-            fill: self.fill,
-            counts: self.counts,
-            warned: 1,
-        }
+        self.warned = 1;
+        self
     }
 }

@@ -4,17 +4,9 @@ ghost use Rattle.recorder.specs.Views.{book_of};
 
 use crate::ledger::Ledger;
 use calls::fault::Decline;
+use layout::register::LAST_SETTING;
 use layout::settings::Settings;
-use tape::traits::WORDS;
-
-/// The bytes of a group.
-const GROUP: usize = 126_632;
-
-/// The bytes of a bench.
-const BENCH: usize = 138_048;
-
-/// The greatest setting.
-const GREATEST: u16 = 32_767;
+use layout::sizes::{BENCH, GROUP, TRACK_WORDS, TRACKS};
 
 /// The bytes of the longest record.
 const LONGEST: usize = 16_777_215;
@@ -23,10 +15,7 @@ const LONGEST: usize = 16_777_215;
 pub(crate) fn test_making(settings: Settings, group: usize, long: bool) -> Result<(), Decline>
     ensures { result ≡ makable settings group long }
 {
-    if settings.tap > GREATEST {
-        return Err(Decline::Setting);
-    }
-    if settings.start > GREATEST {
+    if settings.tap > LAST_SETTING || settings.start > LAST_SETTING {
         return Err(Decline::Setting);
     }
     if group != GROUP {
@@ -52,7 +41,7 @@ impl Ledger {
         ensures { result ≡ admitted (record { track = buffer; bench = bench }) group (book_of self.now) }
     {
         self.test_made(group)?;
-        if buffer != WORDS {
+        if buffer != TRACK_WORDS {
             return Err(Decline::TrackBuffer);
         }
         if bench != BENCH {
@@ -65,7 +54,7 @@ impl Ledger {
     pub(crate) fn test_tape(&self, tracks: usize) -> Result<(), Decline>
         ensures { result ≡ reaches tracks (book_of self.now) }
     {
-        if tracks < 46 * self.limit as usize {
+        if tracks < TRACKS * self.limit as usize {
             return Err(Decline::LostTracks);
         }
         Ok(())
@@ -75,10 +64,7 @@ impl Ledger {
     pub(crate) fn test_record(&self, bytes: usize) -> Result<(), Decline>
         ensures { result ≡ recordable bytes (book_of self.now) }
     {
-        if bytes == 0 {
-            return Err(Decline::Length);
-        }
-        if bytes > LONGEST {
+        if bytes == 0 || bytes > LONGEST {
             return Err(Decline::Length);
         }
         if self.record_ends(bytes) > self.limit as u32 {
@@ -91,10 +77,7 @@ impl Ledger {
     pub(crate) fn test_mark(&self, kind: u8) -> Result<(), Decline>
         ensures { result ≡ markable kind (book_of self.now) }
     {
-        if kind == 0 {
-            return Err(Decline::MarkKind);
-        }
-        if kind > 2 {
+        if kind == 0 || kind > 2 {
             return Err(Decline::MarkKind);
         }
         if self.mark_ends() > self.limit as u32 {

@@ -66,9 +66,8 @@ impl<'a> OpenRecording<'a> {
         ensures same { self.new.group.ghost_name ≡ self.old.group.ghost_name }
         ensures sends { AllByRecursion Sends (calls_of list.old) }
     {
-        for i in 0..list.len() {
-            let call = list[i].call;
-            list[i].answer = self.call(tape, code, call, bench, buffer);
+        for asked in list.iter_mut() {
+            asked.answer = self.call(tape, code, asked.call, bench, buffer);
         }
     }
 }

@@ -5,31 +5,31 @@ use Rattle.recorder.specs.Views.{held_in}
 use Rattle.recorder.proofs.Asking.{going_on, going-ends}
 use Rattle.recorder.proofs.open.OpenRecording.call_all.Goals as goal
 
-pub loop-i-preserved : goal.loop-i-preserved
-loop-i-preserved g c =
+pub loop-asked-preserved : goal.loop-asked-preserved
+loop-asked-preserved g c =
     let k = g.C.LineCode.line c.args.code.now in
-    let i = c.loop-i.invariant in
-    let s = c.call.ensures in
+    let i = c.loop-asked.invariant in
+    let s = c.call-asked.ensures in
     let lent : ℕ → ℕ → Lent = λ t b. record { track = t; bench = b } in (
-      going_on k (lent (length c.args.buffer.now) (length c.args.bench.now)) (lent (length c.loop-i.buffer) (length c.loop-i.bench)) c.loop-i.i c.args.list.now c.loop-i.list
+      going_on k (lent (length c.args.buffer.now) (length c.args.bench.now)) (lent (length c.loop-asked.buffer) (length c.loop-asked.bench)) c.loop-asked.asked-index c.args.list.now c.loop-asked.list
           (desk (held_in c.args.self.now) (g.T.Playable.tracks c.args.tape.now))
-          (desk (held_in c.loop-i.self) (g.T.Playable.tracks c.loop-i.tape))
-          (desk (held_in c.call.new.self) (g.T.Playable.tracks c.call.new.tape))
-          _ _ _ _ _ _ _ c.call.result i.0 (ap₂ lent i.4 i.3) (omega (arith, c.loop-i-test.true, c.loop-i.auto.list)) s.answer s.desk s.bench s.buffer s.sends,
+          (desk (held_in c.loop-asked.self) (g.T.Playable.tracks c.loop-asked.tape))
+          (desk (held_in c.call-asked.new.self) (g.T.Playable.tracks c.call-asked.new.tape))
+          _ _ _ _ _ _ _ c.call-asked.result i.0 (ap₂ lent i.4 i.3) (omega (arith, c.loop-asked-test.true, c.loop-asked.auto.list)) s.answer s.desk s.bench s.buffer s.sends,
       s.kept ∙ i.1,
       s.same ∙ i.2,
-      c.call.auto.bench ∙ i.3,
-      c.call.auto.buffer ∙ i.4,
+      c.call-asked.auto.bench ∙ i.3,
+      c.call-asked.auto.buffer ∙ i.4,
     )
 
 pub returns : goal.returns
 returns g c =
     let k = g.C.LineCode.line c.args.code.now in
-    let i = c.loop-i.invariant in
+    let i = c.loop-asked.invariant in
     let e =
-    going-ends k (record { track = length c.args.buffer.now; bench = length c.args.bench.now }) c.loop-i.i c.args.list.now c.loop-i.list
-    (desk (held_in c.args.self.now) (g.T.Playable.tracks c.args.tape.now)) (desk (held_in c.loop-i.self) (g.T.Playable.tracks c.loop-i.tape))
-    c.args.bench.now c.loop-i.bench c.args.buffer.now c.loop-i.buffer i.0 (omega (arith, c.loop-i-test.false, c.loop-i.auto.list)) in
+    going-ends k (record { track = length c.args.buffer.now; bench = length c.args.bench.now }) c.loop-asked.asked-index c.args.list.now c.loop-asked.list
+    (desk (held_in c.args.self.now) (g.T.Playable.tracks c.args.tape.now)) (desk (held_in c.loop-asked.self) (g.T.Playable.tracks c.loop-asked.tape))
+    c.args.bench.now c.loop-asked.bench c.args.buffer.now c.loop-asked.buffer i.0 (omega (arith, c.loop-asked-test.false, c.loop-asked.auto.list)) in
     record {
       desk = e.desk;
       calls = i.0.calls;

@@ -4,10 +4,10 @@ use Rattle.recorder.specs.Views.{held_in}
 use Rattle.recorder.proofs.Asking.{Going}
 use Rattle.recorder.proofs.open.OpenRecording.call_all.Given as goal
 
-abbrev pub invariant-loop-i : goal.invariant-loop-i
-invariant-loop-i g l =
+abbrev pub invariant-loop-asked : goal.invariant-loop-asked
+invariant-loop-asked g l =
     Going (g.C.LineCode.line l.code)
-    (record { track = length l.initial.buffer; bench = length l.initial.bench }) l.i l.initial.list l.list
+    (record { track = length l.initial.buffer; bench = length l.initial.bench }) l.asked-index l.initial.list l.list
     (desk (held_in l.initial.self) (g.T.Playable.tracks l.initial.tape)) (desk (held_in l.self) (g.T.Playable.tracks l.tape))
     l.initial.bench l.bench l.initial.buffer l.buffer
     × (g.T.Recordable.rest l.tape ≡ g.T.Recordable.rest l.initial.tape)
