@@ -1,14 +1,11 @@
-ghost use Rattle.std.specs.Prelude.{◌≡◌};
+ghost use Rattle.std.specs.Prelude.{◌≡◌, Some, None, MatchResult};
 ghost use Rattle.losses.specs.Faults.{size_decline};
 ghost use Rattle.playing.specs.Play.{size_fault};
 
+use layout::lent::check_lent;
+use layout::register::Register;
 use layout::settings::Settings;
 use playing::fault::PlayFault;
-use layout::sizes::{BENCH, GROUP};
-use tape::traits::WORDS;
-
-/// The greatest setting.
-const LAST_SETTING: u16 = 32767;
 
 /// Tests the settings and the sizes of the memory that is lent.
 pub(crate) fn test_lent(
@@ -16,20 +13,8 @@ pub(crate) fn test_lent(
     settings: Settings,
     group: usize,
     bench: usize,
-) -> Option<PlayFault>
-    ensures { result ≡ size_fault (size_decline buffer settings.tap settings.start group bench) }
+) -> Result<Register, PlayFault>
+    ensures { MatchResult result (λ r. (size_fault (size_decline buffer settings.tap settings.start group bench) ≡ None) × (r.tap ≡ settings.tap) × (r.bits ≡ settings.start)) (λ e. size_fault (size_decline buffer settings.tap settings.start group bench) ≡ Some e) }
 {
-    if buffer != WORDS {
-        return Some(PlayFault::TrackBuffer);
-    }
-    if settings.tap > LAST_SETTING || settings.start > LAST_SETTING {
-        return Some(PlayFault::Setting);
-    }
-    if group != GROUP {
-        return Some(PlayFault::GroupBuffer);
-    }
-    if bench != BENCH {
-        return Some(PlayFault::Bench);
-    }
-    None
+    Ok(check_lent(buffer, settings, group, bench)?)
 }

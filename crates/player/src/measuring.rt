@@ -12,12 +12,9 @@ use index::reader::IndexReader;
 pub(crate) fn part_of<'a>(content: Content<'a>) -> &'a [u8]
     ensures { result.now ≡ (if named (kind_in content.entry) then bytes_in content.entry else []) }
 {
-    match content {
-        Content::Middle(part) => part.bytes,
-        Content::Start(part) => part.bytes,
-        Content::Last(part) => part.bytes,
-        Content::Entire(part) => part.bytes,
-        _ => &[],
+    match content.part() {
+        Some(part) => part.bytes,
+        None => &[],
     }
 }
 
@@ -26,22 +23,20 @@ fn finished(content: Content) -> usize
     ensures { result ≡ finishes (kind_in content.entry) }
 {
     match content {
-        Content::Total => 1,
-        Content::Mark => 1,
-        Content::Entire(_) => 1,
+        Content::Total | Content::Mark | Content::Entire(_) => 1,
         _ => 0,
     }
 }
 
 /// How many bytes the entries name that a reader has left, and how many items they finish.
-pub(crate) fn measure(mut reader: IndexReader) -> (usize, usize)
+pub(crate) fn measure(reader: IndexReader) -> (usize, usize)
     requires { Sound (cursor_of reader) }
     ensures bytes { result.0 ≡ size_in (remaining (cursor_of reader.entry)) }
     ensures rows { result.1 ≡ finished_in (remaining (cursor_of reader.entry)) }
 {
     let mut bytes: usize = 0;
     let mut rows: usize = 0;
-    while let Some(entry) = reader.next() {
+    for entry in reader {
         bytes += part_of(entry.content).len();
         rows += finished(entry.content);
     }

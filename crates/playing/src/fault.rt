@@ -1,7 +1,8 @@
 ghost use Rattle.std.specs.Prelude.{◌≡◌};
-ghost use Rattle.playing.specs.Faults.{play_report};
+ghost use Rattle.playing.specs.Faults.{play_report, cause_of, play_fault};
 
-use index::fault::IndexFault;
+use index::fault::{GroupFault, IndexFault};
+use layout::lent::LentFault;
 use losses::fault::ReadFault;
 
 /// Why a group is not played; the fault of the layer below is kept whole.
@@ -51,6 +52,30 @@ impl PlayFault {
                 GroupCause::Output => 20,
                 GroupCause::Rows => 21,
             },
+        }
+    }
+}
+
+impl From<GroupFault> for GroupCause {
+    ghost from_gives = { λ e r. r ≡ cause_of e };
+
+    fn from(e: GroupFault) -> GroupCause {
+        match e {
+            GroupFault::Index(fault) => GroupCause::Index(fault),
+            GroupFault::WrongLength => GroupCause::Absent,
+        }
+    }
+}
+
+impl From<LentFault> for PlayFault {
+    ghost from_gives = { λ e r. r ≡ play_fault e };
+
+    fn from(e: LentFault) -> PlayFault {
+        match e {
+            LentFault::TrackBuffer => PlayFault::TrackBuffer,
+            LentFault::Setting => PlayFault::Setting,
+            LentFault::GroupBuffer => PlayFault::GroupBuffer,
+            LentFault::Bench => PlayFault::Bench,
         }
     }
 }

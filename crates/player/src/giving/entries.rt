@@ -16,9 +16,7 @@ fn put_bytes(output: &mut [u8], at: usize, bytes: &[u8])
     requires { at + length bytes.now ≤ length output.old }
     ensures { output.new ≡ replaced output.old at bytes.now }
 {
-    for (i, byte) in bytes.iter().enumerate() {
-        output[at + i] = *byte;
-    }
+    output[at..at + bytes.len()].copy_from_slice(bytes);
 }
 
 impl Giving {
@@ -31,17 +29,7 @@ impl Giving {
     {
         let bytes = self.bytes + size;
         match content {
-            Content::Total => Giving {
-                bytes,
-                rows: self.rows + 1,
-                ..self
-            },
-            Content::Mark => Giving {
-                bytes,
-                rows: self.rows + 1,
-                ..self
-            },
-            Content::Entire(_) => Giving {
+            Content::Total | Content::Mark | Content::Entire(_) => Giving {
                 bytes,
                 rows: self.rows + 1,
                 ..self
@@ -52,17 +40,12 @@ impl Giving {
                 warned,
                 ..self
             },
-            Content::Middle(_) => Giving {
+            Content::Middle(_) | Content::Last(_) => Giving {
                 bytes,
                 length: self.length + size,
                 ..self
             },
-            Content::Last(_) => Giving {
-                bytes,
-                length: self.length + size,
-                ..self
-            },
-            _ => Giving { bytes, ..self },
+            Content::Skip | Content::Unknown => Giving { bytes, ..self },
         }
     }
 
@@ -113,12 +96,12 @@ impl Giving {
     }
 
     /// Gives what the entries add that a reader has left.
-    pub(crate) fn take_all(&mut self, mut reader: IndexReader, output: &mut [u8], rows: &mut [Row])
+    pub(crate) fn take_all(&mut self, reader: IndexReader, output: &mut [u8], rows: &mut [Row])
         requires sound { Sound (cursor_of reader) }
         requires fits { Fits (shelf self.old output.old rows.old) (remaining (cursor_of reader)) }
         ensures { shelf self.new output.new rows.new ≡ laid_all (shelf self.old output.old rows.old) (remaining (cursor_of reader.entry)) }
     {
-        while let Some(entry) = reader.next() {
+        for entry in reader {
             self.take(entry, output, rows);
         }
     }

@@ -3,12 +3,11 @@ ghost use Rattle.index.specs.Bytes.{number, read_group};
 ghost use Rattle.index.specs.Answers.{standing};
 ghost use Rattle.index.specs.Walk.{Between, walk_group};
 ghost use Rattle.playing.specs.declared.rows.Row.{Row as RowIn};
-ghost use Rattle.player.specs.Standing.{Stands, Somewhere, cause_in, Went};
+ghost use Rattle.player.specs.Standing.{Stands, Somewhere, Went};
 ghost use Rattle.player.specs.Shelves.{shelf, Roomy, room_for, after_all};
 
 use crate::giving::Giving;
 use crate::measuring::measure;
-use index::fault::GroupFault;
 use index::reader::IndexReader;
 use index::walk::{Ending, Walk};
 use playing::fault::GroupCause;
@@ -54,19 +53,8 @@ impl Giving {
         requires somewhere { Somewhere walk.old (shelf self.old output.old rows.old) }
         ensures { (out : List ℕ) (old : List RowIn) (b : Between) → Stands out old b walk.old (shelf self.old output.old rows.old) → Went out old b (standing walk.old).0 (slice_index group.now 126616) walk.new (shelf self.new output.new rows.new) result (walk_group (standing walk.old).0 b (read_group group.now)) }
     {
-        let ending = cause_of(walk.group(group))?;
+        let ending = walk.group(group)?;
         self.give(group, output, rows)?;
         Ok(ending)
-    }
-}
-
-/// The answer of a walk, its fault as the cause of a decline.
-fn cause_of(answer: Result<Ending, GroupFault>) -> Result<Ending, GroupCause>
-    ensures { result ≡ cause_in answer }
-{
-    match answer {
-        Ok(ending) => Ok(ending),
-        Err(GroupFault::Index(fault)) => Err(GroupCause::Index(fault)),
-        Err(GroupFault::WrongLength) => Err(GroupCause::Absent),
     }
 }

@@ -1,4 +1,4 @@
-use Rattle.std.proofs.Common.{ℕ, get_or, Ok, Err, refl, ap, ◌∙◌}
+use Rattle.std.proofs.Common.{ℕ, get_or, Ok, Err, refl, sym, ap, ◌∙◌}
 use Rattle.std.proofs.lemmas.Result.{err_from_is_err_and}
 use Rattle.index.specs.declared.succession.State.{State}
 use Rattle.index.specs.declared.tally.Counts.{Counts}
@@ -18,7 +18,7 @@ give-requires c =
     let p = c.requires.somewhere in
     let r =
     next-roomy p.out p.rows p.upto w s p.stands (standing w).0 g c.in_ok-ending.ending c.group.result (state_counts (standing c.group.new.self)) (get_or g 126616 0)
-    c.in_ok-ending.ensures (walk_group (standing w).0 p.upto (read_group g)) refl (c.group.ensures.walked p.upto p.stands.numbers c.requires.size) in
+    (sym (ap cause_in c.in_ok-ending.was)) (walk_group (standing w).0 p.upto (read_group g)) refl (c.group.ensures.walked p.upto p.stands.numbers c.requires.size) in
     record { size = c.requires.size; few = r.0; roomy = r.1 }
 
 pub returns-in_err-give : goal.returns-in_err-give
@@ -28,7 +28,7 @@ returns-in_err-give c out old b t =
     let g = c.args.group.now in
     let e = c.in_ok-ending.ending in
     let x = err_from_is_err_and c.from_residual-in_err-give.result c.from_residual-in_err-give.ensures.1 in
-    let q = c.in_ok-ending.ensures in
+    let q = sym (ap cause_in c.in_ok-ending.was) in
     next-went out old b w s t (standing w).0 g e c.group.result (state_counts (standing c.group.new.self)) (get_or g 126616 0) q
     c.group.new.self (shelf c.give.new.self c.give.new.output c.give.new.rows) c.from_residual-in_err-give.result refl
     (ap (λ (y : ℕ × State × Counts). y.0) c.group.ensures.after ∙ number-on w g e (q ∙ ap cause_in c.group.ensures.answer))
@@ -41,7 +41,7 @@ returns c out old b t =
     let w = c.args.walk.now in
     let g = c.args.group.now in
     let e = c.in_ok-ending.ending in
-    let q = c.in_ok-ending.ensures in
+    let q = sym (ap cause_in c.in_ok-ending.was) in
     next-went out old b w s t (standing w).0 g e c.group.result (state_counts (standing c.group.new.self)) (get_or g 126616 0) q
     c.group.new.self (shelf c.give.new.self c.give.new.output c.give.new.rows) (Ok e) refl
     (ap (λ (y : ℕ × State × Counts). y.0) c.group.ensures.after ∙ number-on w g e (q ∙ ap cause_in c.group.ensures.answer))

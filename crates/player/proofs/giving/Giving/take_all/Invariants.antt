@@ -6,9 +6,7 @@ use Rattle.player.proofs.giving.Giving.take_all.Given as goal
 -- what is left gives what all gives
 abbrev pub invariant-loop-entry : goal.invariant-loop-entry
 invariant-loop-entry l =
-    Sound (cursor_of l.reader)
-    × Fits (shelf l.self l.output l.rows) (remaining (cursor_of l.reader))
-    × (laid_all (shelf l.self l.output l.rows) (remaining (cursor_of l.reader)) ≡ laid_all (shelf l.initial.self l.initial.output l.initial.rows) (remaining (cursor_of l.initial.reader)))
+    Sound (cursor_of l.entry-iterator)
+    × Fits (shelf l.self l.output l.rows) (remaining (cursor_of l.entry-iterator))
+    × (laid_all (shelf l.self l.output l.rows) (remaining (cursor_of l.entry-iterator)) ≡ laid_all (shelf l.initial.self l.initial.output l.initial.rows) (remaining (cursor_of l.initial.entry-iterator)))
 
-abbrev pub decreases-loop-entry : goal.decreases-loop-entry
-decreases-loop-entry l = l.reader.left
