@@ -2,7 +2,7 @@
 use Rattle.std.proofs.Common.{◌≡◌, ℕ, zero, suc, ◌*◌, ◌/◌, ◌%◌, ◌<◌, ◌≢◌, ◌⊎◌, sym, refl, ap, ◌∙◌, subst, ap₂, inl, inr, add-zero, mod-lt, mod-eq_of_lt, one-mul, mul-zero, zero-mul, arith, lit<}
 use lib.Bits.{bit_xor, xor_lt, xor_mod, xor_shr, xor_block, xor_assoc, xor_comm, xor_self, xor_zero_r}
 use Rattle.galois.specs.Galois.{xtime, horner, gmul}
-use Rattle.galois.proofs.Below.{below, at-eq}
+use Rattle.galois.proofs.Below.{at-eq}
 
 -- ---- xor
 
@@ -120,8 +120,8 @@ horner-swap (suc k) m c a b =
 
 -- 1 is the unit: 256 computed cases
 pub horner-one : (b : ℕ) → b < 256 → horner 8 1 b ≡ b
-unfolding below horner xtime
-horner-one b h = at-eq (λ b. horner 8 1 b) (λ b. b) 256 tt b h
+unfolding horner xtime
+horner-one b h = at-eq (λ b. horner 8 1 b) (λ b. b) 256 refl b h
 
 -- ---- gmul
 

@@ -1,8 +1,9 @@
 -- Lists of places, by their indices.
-use Rattle.std.proofs.Common.{◌≡◌, ℕ, zero, suc, ◌<◌, ◌≤◌, false, T, ◌≢◌, List, [], ◌∷◌, length, get_or, Decides, sym, subst, arith}
-use native.Mathlib.Decide.{ℕ_discrete}
-use Rattle.std.specs.List.{AllByRecursion}
+use Rattle.std.proofs.Common.{◌≡◌, ℕ, zero, suc, ◌<◌, ◌≤◌, true, false, T, eqb, ◌≢◌, List, [], ◌∷◌, length, get_or, Decides, sym, subst, inl, inr, arith}
+use Rattle.std.specs.List.{AllByRecursion, IsDistinct, list_any}
 use Rattle.std.proofs.ByRecursion.{All-get_or, All-from_get_or}
+use Rattle.std.proofs.lemmas.Bool.{false≢true, eqb-true, ne_eqb, or_cases}
+use Rattle.std.proofs.lemmas.Map.Steps.{length-le_from_distinct_below}
 use Rattle.reed_solomon.specs.Words.{Within, Distinct}
 
 pub refuted : {P : Type 0} → (P → ⊥) → Decides false P
@@ -23,34 +24,22 @@ distinct_from (p ∷ ps) h = (
 
 -- ---- at most n different places below n
 
--- the places but n: at most one less
-record But (n : ℕ) (ps : List ℕ) : Type 0 where
-  rest : List ℕ
-  within : Within n rest
-  once : Distinct rest
-  many : length ps ≤ suc (length rest)
-  apart : (x : ℕ) → AllByRecursion (λ q. q ≢ x) ps → AllByRecursion (λ q. q ≢ x) rest
-
-below-n : (n : ℕ) (ps : List ℕ) → Within (suc n) ps → AllByRecursion (λ q. q ≢ n) ps → Within n ps
-below-n n [] w d = tt
-below-n n (p ∷ ps) w d = (let h = w.0 in let g = d.0 in omega arith, below-n n ps w.1 d.1)
-
-but : (n : ℕ) (ps : List ℕ) → Within (suc n) ps → Distinct ps → But n ps
-but n [] w d = record { rest = []; within = tt; once = tt; many = omega arith; apart = λ x a. tt }
-but n (p ∷ ps) w d = go (ℕ_discrete p n) (but n ps w.1 d.1)
+is-distinct : (ps : List ℕ) → Distinct ps → IsDistinct eqb ps
+unfolding IsDistinct
+is-distinct [] d = tt
+is-distinct (p ∷ ps) d = (others ps d.0, is-distinct ps d.1)
   where
-    go : Dec (p ≡ n) → But n ps → But n (p ∷ ps)
-    go (yes e) b = record { rest = ps; within = below-n n ps w.1 (subst (λ m. AllByRecursion (λ q. q ≢ m) ps) e d.0); once = d.1; many = omega arith; apart = λ x a. a.1 }
-    go (no g) b =
-        record {
-          rest = p ∷ b.rest;
-          within = (let h = w.0 in omega arith, b.within);
-          once = (b.apart p d.0, b.once);
-          many = omega arith;
-          apart = λ x a. (a.0, b.apart x a.1);
-        }
+    others : (qs : List ℕ) → AllByRecursion (λ q. q ≢ p) qs → AllByRecursion (λ q. eqb p q ≡ false) qs
+    others [] a = tt
+    others (q ∷ qs) a = (ne_eqb p q (λ e. a.0 (sym e)), others qs a.1)
+
+within-at : (n q : ℕ) (ps : List ℕ) → Within n ps → list_any (eqb q) ps ≡ true → q < n
+within-at n q [] w t = absurd (false≢true t)
+within-at n q (p ∷ ps) w t =
+    elim (or_cases (eqb q p) (list_any (eqb q) ps) t) [
+      | inl e ↦ subst (λ m. m < n) (sym (eqb-true q p e)) w.0
+      | inr e ↦ within-at n q ps w.1 e
+    ]
 
 pub few-places : (n : ℕ) (ps : List ℕ) → Within n ps → Distinct ps → length ps ≤ n
-few-places zero [] w d = omega arith
-few-places zero (p ∷ ps) w d = absurd (let h = w.0 in omega arith)
-few-places (suc n) ps w d = let b = but n ps w d in let h = few-places n b.rest b.within b.once in omega arith
+few-places n ps w d = length-le_from_distinct_below ps n (is-distinct ps d) (λ q. within-at n q ps w)

@@ -10,36 +10,36 @@ use Rattle.reed_solomon.proofs.filling.fill_with.Goals as goal
 pub weights-requires : goal.weights-requires
 weights-requires c =
     record {
-      n_bound = c.requires.word_len_bound;
+      n_bound = omega (arith, c.requires.fit.size);
       out_len = c.requires.xs_len;
-      by_index = λ i h. All-get_or (λ p. p < length c.args.word.now) c.args.lost.now i 0 h c.requires.places.within;
+      by_index = λ i h. All-get_or (λ p. p < length c.args.word.now) c.args.lost.now i 0 h c.requires.fit.places.within;
     }
 
 pub solve-requires : goal.solve-requires
 solve-requires c = record {
   s_len = c.syndromes_into.auto.sums ∙ c.requires.vs_len ∙ sym c.requires.xs_len ∙ sym c.weights.auto.out;
-  distinct = subst Distinct (sym c.weights.ensures) (distinct-weights (length c.args.word.now) c.args.lost.now (omega (arith, c.requires.word_len_bound)) c.requires.places.within c.requires.places.once);
+  distinct = subst Distinct (sym c.weights.ensures) (distinct-weights (length c.args.word.now) c.args.lost.now (omega (arith, c.requires.fit.size)) c.requires.fit.places.within c.requires.fit.places.once);
 }
 
 pub add_at-requires : goal.add_at-requires
 add_at-requires c =
     record {
       vs_len = c.solve.auto.s ∙ c.syndromes_into.auto.sums ∙ c.requires.vs_len;
-      by_index = λ i h. All-get_or (λ p. p < length c.args.word.now) c.args.lost.now i 0 h c.requires.places.within;
+      by_index = λ i h. All-get_or (λ p. p < length c.args.word.now) c.args.lost.now i 0 h c.requires.fit.places.within;
     }
 
-pub returns-then-agrees : goal.returns-then-agrees
-returns-then-agrees c =
+pub returns-clause-ok : goal.returns-clause-ok
+returns-clause-ok c =
     let b = c.args.word.now in
     let ps = c.args.lost.now in
     let vs = c.solve.new.s in
     let low = sums-agree ps b c.weights.new.out c.syndromes_into.new.sums vs c.weights.ensures (c.syndromes_into.auto.sums ∙ c.requires.vs_len) c.syndromes_into.ensures c.solve.ensures in
     subst (Filled c.args.r ps b) (sym c.add_at.ensures)
-    (filled c.args.r ps b vs (omega (arith, c.requires.word_len_bound)) c.requires.places c.requires.lost_len_bound low
-    (λ e g h. c.if-agrees.ensures.0 refl e g h ∙ ap (λ x. vsum e x vs) c.weights.ensures))
+    (filled c.args.r ps b vs (omega (arith, c.requires.fit.size)) c.requires.fit.places c.requires.fit.few low
+    (λ e g h. c.if-not-agrees.ensures.0 refl e g h ∙ ap (λ x. vsum e x vs) c.weights.ensures))
 
-pub returns-else-agrees : goal.returns-else-agrees
-returns-else-agrees c =
+pub returns-then-not-agrees-clause-err : goal.returns-then-not-agrees-clause-err
+returns-then-not-agrees-clause-err c =
     let b = c.args.word.now in
     let ps = c.args.lost.now in
     let vs = c.solve.new.s in
@@ -47,10 +47,10 @@ returns-else-agrees c =
     let bb : (i : ℕ) → get_or b i 0 < 256 = λ i. search rules in
     let bv : (i : ℕ) → get_or vs i 0 < 256 = λ i. search rules in
     let bad : ((e : ℕ) → length ps ≤ e → e < c.args.r → syndrome e b ≡ vsum e c.weights.new.out vs) → ⊥ =
-    λ high. subst T (sym (c.if-agrees.ensures.1 high)) tt in
+    λ high. subst T (sym (c.if-not-agrees.ensures.1 high)) tt in
     record {
       same = refl;
       none =
-          no_other c.args.r ps b vs (omega (arith, c.requires.word_len_bound)) c.requires.places c.requires.lost_len_bound low (bytes-from b bb) (bytes-from vs bv)
+          no_other c.args.r ps b vs (omega (arith, c.requires.fit.size)) c.requires.fit.places c.requires.fit.few low (bytes-from b bb) (bytes-from vs bv)
           (λ high. bad (λ e g h. high e g h ∙ ap (λ x. vsum e x vs) (sym c.weights.ensures)));
     }
