@@ -1,4 +1,4 @@
-ghost use Rattle.std.specs.Prelude.{◌≡◌, ◌<◌, ◌≤◌, length, Decides, OnOk, OnErr};
+ghost use Rattle.std.specs.Prelude.{◌≡◌, ◌<◌, ◌≤◌, length, ◌↔◌, IsTrue, OnOk, OnErr};
 ghost use Rattle.reed_solomon.specs.Interleaves.{interleaved, Refilled, Unfilled, Reaches};
 ghost use Rattle.reed_solomon.specs.Words.{Checks, Places, CodeFills};
 
@@ -37,7 +37,7 @@ pub const C3: Code = Code {
 impl Code {
     /// Whether this is a word of the code.
     pub fn holds(&self, word: &[u8]) -> bool
-        ensures { Decides result ((length word.now ≡ self.now.length) × Checks self.now.check_bytes word.now) }
+        ensures { IsTrue result ↔ ((length word.now ≡ self.now.length) × Checks self.now.check_bytes word.now) }
     {
         word.len() == self.length && syndromes::checks(word, self.check_bytes)
     }
@@ -57,7 +57,7 @@ impl Code {
     pub fn holds_interleaved(&self, memory: &[u8], at: Interleaving) -> bool
         requires reaches { Reaches (length memory.now) at.start at.stride self.now.length }
         requires length_bound { self.now.length ≤ 255 }
-        ensures { Decides result (Checks self.now.check_bytes (interleaved memory.now at.start at.stride self.now.length)) }
+        ensures { IsTrue result ↔ Checks self.now.check_bytes (interleaved memory.now at.start at.stride self.now.length) }
     {
         if self.length <= SHORT {
             self.holds_gathered::<SHORT>(memory, at)
@@ -71,12 +71,12 @@ impl Code {
         requires reaches { Reaches (length memory.now) at.start at.stride self.now.length }
         requires length_bound { self.now.length ≤ N }
         requires memory { N ≤ 255 }
-        ensures { Decides result (Checks self.now.check_bytes (interleaved memory.now at.start at.stride self.now.length)) }
+        ensures { IsTrue result ↔ Checks self.now.check_bytes (interleaved memory.now at.start at.stride self.now.length) }
     {
         let mut room = [0u8; N];
-        let word = &mut room[..self.length];
-        at.gather(memory, word);
-        syndromes::checks(word, self.check_bytes)
+        let gathered = &mut room[..self.length];
+        at.gather(memory, gathered);
+        syndromes::checks(gathered, self.check_bytes)
     }
 
     /// Gives the lost bytes of the word that lies interleaved in memory the values that make it one
@@ -119,10 +119,10 @@ impl Code {
         ensures err { OnErr result (Unfilled self.now.check_bytes lost.now memory.old memory.new at.start at.stride self.now.length) }
     {
         let mut room = [0u8; N];
-        let word = &mut room[..self.length];
-        at.gather(memory, word);
-        filling::fill_places(word, lost, self.check_bytes)?;
-        at.scatter(memory, word);
+        let gathered = &mut room[..self.length];
+        at.gather(memory, gathered);
+        filling::fill_places(gathered, lost, self.check_bytes)?;
+        at.scatter(memory, gathered);
         Ok(())
     }
 }

@@ -1,4 +1,4 @@
-ghost use Rattle.std.specs.Prelude.{◌≡◌, ℕ, ◌-◌, ◌<◌, ◌≤◌, map, length, Decides, OnOk, OnErr, ◌≢◌, bit_xor, slice_index};
+ghost use Rattle.std.specs.Prelude.{◌≡◌, ℕ, ◌-◌, ◌<◌, ◌≤◌, map, length, ◌↔◌, IsTrue, OnOk, OnErr, ◌≢◌, bit_xor, slice_index};
 ghost use Rattle.galois.specs.Galois.{gmul, ginv, alpha};
 ghost use Rattle.reed_solomon.specs.Steps.{xsum, vsum, patch, Swept};
 ghost use Rattle.reed_solomon.specs.Words.{syndrome, Distinct, Within, Fit, Filled, Refused, Fills};
@@ -11,89 +11,93 @@ use galois::field;
 const FEW: usize = 6;
 
 /// The sum of the values, each times its weight to the power `e`.
-fn weighed_sum(xs: &[u8], vs: &[u8], e: usize) -> u8
-    ensures { result ≡ vsum e xs.now vs.now }
+fn weighed_sum(weights: &[u8], values: &[u8], e: usize) -> u8
+    ensures { result ≡ vsum e weights.now values.now }
 {
-    xs.iter()
-        .zip(vs)
-        .map(|(x, v)| field::multiply(*v, field::power(*x, e)))
+    weights
+        .iter()
+        .zip(values)
+        .map(|(w, v)| field::multiply(*v, field::power(*w, e)))
         .fold(0, |sum, term| sum ^ term)
 }
 
 /// The sum of the values.
-fn sum(vs: &[u8]) -> u8
-    ensures { result ≡ xsum vs.now }
+fn sum(values: &[u8]) -> u8
+    ensures { result ≡ xsum values.now }
 {
-    vs.iter().fold(0, |sum, v| sum ^ *v)
+    values.iter().fold(0, |sum, v| sum ^ *v)
 }
 
-/// Adds to each sum but the first `x` times the sum before it, so that the value with the weight
-/// `x` drops out of them.
-fn eliminate(sums: &mut [u8], x: u8)
-    ensures { Swept x sums.old sums.new }
+/// Adds to each sum but the first `weight` times the sum before it, so that the value with this
+/// weight drops out of them.
+fn eliminate(sums: &mut [u8], weight: u8)
+    ensures { Swept weight sums.old sums.new }
 {
     let mut before = 0;
     for sum in sums.iter_mut() {
         let own = *sum;
-        *sum = own ^ field::multiply(x, before);
+        *sum = own ^ field::multiply(weight, before);
         before = own;
     }
 }
 
-/// Divides each value by its weight plus `x`.
-fn divide(s: &mut [u8], ys: &[u8], x: u8)
-    requires s_len { length s.old ≡ length ys.now }
-    requires by_index { (i : ℕ) → i < length ys.now → slice_index ys.now i ≢ x }
-    ensures { (i : ℕ) → i < length s.new → slice_index s.new i ≡ gmul (slice_index s.old i) (ginv (bit_xor (slice_index ys.now i) x)) }
+/// Divides each value by its weight plus `weight`.
+fn divide(values: &mut [u8], weights: &[u8], weight: u8)
+    requires values_len { length values.old ≡ length weights.now }
+    requires by_index { (i : ℕ) → i < length weights.now → slice_index weights.now i ≢ weight }
+    ensures { (i : ℕ) → i < length values.new → slice_index values.new i ≡ gmul (slice_index values.old i) (ginv (bit_xor (slice_index weights.now i) weight)) }
 {
-    for (i, v) in s.iter_mut().enumerate() {
-        *v = field::multiply(*v, field::reciprocal(ys[i] ^ x));
+    // By index, since nothing is known of values that a `zip` has lent.
+    for (i, v) in values.iter_mut().enumerate() {
+        *v = field::multiply(*v, field::reciprocal(weights[i] ^ weight));
     }
 }
 
-/// Turns the sums `s` into the values that have them: value i times the powers of weight i.
-fn solve(s: &mut [u8], xs: &[u8])
-    requires s_len { length s.old ≡ length xs.now }
-    requires distinct { Distinct xs.now }
-    ensures { (e : ℕ) → e < length xs.now → vsum e xs.now s.new ≡ slice_index s.old e }
+/// Turns the sums into the values that have them: value i times the powers of weight i.
+fn solve(sums: &mut [u8], weights: &[u8])
+    requires sums_len { length sums.old ≡ length weights.now }
+    requires distinct { Distinct weights.now }
+    ensures { (e : ℕ) → e < length weights.now → vsum e weights.now sums.new ≡ slice_index sums.old e }
 {
-    if xs.len() > 0 {
-        let x = xs[0];
-        eliminate(s, x);
-        solve(&mut s[1..], &xs[1..]);
-        divide(&mut s[1..], &xs[1..], x);
-        s[0] ^= sum(&s[1..]);
+    if let Some((weight, others)) = weights.split_first() {
+        eliminate(sums, *weight);
+        let rest = &mut sums[1..];
+        solve(rest, others);
+        divide(rest, others, *weight);
+        let others_sum = sum(rest);
+        sums[0] ^= others_sum;
     }
 }
 
 /// The weights of the places of a word of `n` bytes: 2 to the power of the bytes behind each.
-fn weights(n: usize, places: &[usize], out: &mut [u8])
+fn weigh(n: usize, places: &[usize], weights: &mut [u8])
     requires n_bound { n < 256 }
-    requires out_len { length out.old ≡ length places.now }
-    requires by_index { (i : ℕ) → i < length places.now → slice_index places.now i < n }
-    ensures { out.new ≡ map (λ p. alpha (n - 1 - p)) places.now }
+    requires weights_len { length weights.old ≡ length places.now }
+    requires within { Within n places.now }
+    ensures { weights.new ≡ map (λ p. alpha (n - 1 - p)) places.now }
 {
+    // By index, since nothing is known of weights that a `zip` has lent.
     for (i, p) in places.iter().enumerate() {
-        out[i] = field::exp(n - 1 - *p);
+        weights[i] = field::exp(n - 1 - *p);
     }
 }
 
 /// Adds the values to the word, each at its place.
-fn add_at(word: &mut [u8], places: &[usize], vs: &[u8])
-    requires vs_len { length vs.now ≡ length places.now }
-    requires by_index { (i : ℕ) → i < length places.now → slice_index places.now i < length word.old }
-    ensures { word.new ≡ patch word.old places.now vs.now }
+fn add_at(word: &mut [u8], places: &[usize], values: &[u8])
+    requires values_len { length values.now ≡ length places.now }
+    requires within { Within (length word.old) places.now }
+    ensures { word.new ≡ patch word.old places.now values.now }
 {
-    for (p, v) in places.iter().zip(vs) {
+    for (p, v) in places.iter().zip(values) {
         word[*p] ^= *v;
     }
 }
 
 /// Whether the values have the check sums of the word from `k` on to `r`.
-fn agrees(word: &[u8], xs: &[u8], vs: &[u8], k: usize, r: usize) -> bool
-    ensures { Decides result ((e : ℕ) → k ≤ e → e < r → syndrome e word.now ≡ vsum e xs.now vs.now) }
+fn agrees(word: &[u8], weights: &[u8], values: &[u8], k: usize, r: usize) -> bool
+    ensures { IsTrue result ↔ ((e : ℕ) → k ≤ e → e < r → syndrome e word.now ≡ vsum e weights.now values.now) }
 {
-    (k..r).all(|e| syndromes::evaluate(word, e) == weighed_sum(xs, vs, e))
+    (k..r).all(|e| syndromes::evaluate(word, e) == weighed_sum(weights, values, e))
 }
 
 /// Fills in memory that is lent for the weights and the values. These are two slices and no slice
@@ -102,22 +106,22 @@ fn fill_with(
     word: &mut [u8],
     lost: &[usize],
     r: usize,
-    xs: &mut [u8],
-    vs: &mut [u8],
+    weights: &mut [u8],
+    values: &mut [u8],
 ) -> Result<(), Unfillable>
     requires fit { Fit r lost.now word.old }
-    requires xs_len { length xs.old ≡ length lost.now }
-    requires vs_len { length vs.old ≡ length lost.now }
+    requires weights_len { length weights.old ≡ length lost.now }
+    requires values_len { length values.old ≡ length lost.now }
     ensures ok { OnOk result (Filled r lost.now word.old word.new) }
     ensures err { OnErr result (Refused r lost.now word.old word.new) }
 {
-    weights(word.len(), lost, xs);
-    syndromes::syndromes_into(word, vs);
-    solve(vs, xs);
-    if !agrees(word, xs, vs, lost.len(), r) {
+    weigh(word.len(), lost, weights);
+    syndromes::syndromes_into(word, values);
+    solve(values, weights);
+    if !agrees(word, weights, values, lost.len(), r) {
         return Err(Unfillable);
     }
-    add_at(word, lost, vs);
+    add_at(word, lost, values);
     Ok(())
 }
 
@@ -129,10 +133,10 @@ fn fill_up_to<const N: usize>(word: &mut [u8], lost: &[usize], r: usize) -> Resu
     ensures ok { OnOk result (Filled r lost.now word.old word.new) }
     ensures err { OnErr result (Refused r lost.now word.old word.new) }
 {
-    let mut xs = [0u8; N];
-    let mut vs = [0u8; N];
+    let mut weights = [0u8; N];
+    let mut values = [0u8; N];
     let k = lost.len();
-    fill_with(word, lost, r, &mut xs[..k], &mut vs[..k])
+    fill_with(word, lost, r, &mut weights[..k], &mut values[..k])
 }
 
 /// Gives the lost bytes the values with which the word checks to `r`, or leaves it as it is where
@@ -152,7 +156,7 @@ pub fn fill_places(word: &mut [u8], lost: &[usize], r: usize) -> Result<(), Unfi
 
 /// Whether each of these is a place of a word of `n` bytes.
 fn all_within(places: &[usize], n: usize) -> bool
-    ensures { Decides result (Within n places.now) }
+    ensures { IsTrue result ↔ Within n places.now }
 {
     places.iter().all(|p| *p < n)
 }
@@ -160,7 +164,7 @@ fn all_within(places: &[usize], n: usize) -> bool
 /// Whether each place is named once. It ends at the first that is not: among places of a word of
 /// up to 255 bytes, at the 256th place at the latest.
 fn all_distinct(places: &[usize]) -> bool
-    ensures { Decides result (Distinct places.now) }
+    ensures { IsTrue result ↔ Distinct places.now }
 {
     for (i, p) in places.iter().enumerate() {
         if places[..i].contains(p) {

@@ -1,4 +1,4 @@
-ghost use Rattle.std.specs.Prelude.{◌≡◌, ℕ, ◌<◌, ◌≤◌, length, Decides, bit_xor, slice_index};
+ghost use Rattle.std.specs.Prelude.{◌≡◌, ℕ, ◌<◌, ◌≤◌, length, ◌↔◌, IsTrue, bit_xor, slice_index};
 ghost use Rattle.galois.specs.Galois.{gmul, alpha};
 ghost use Rattle.reed_solomon.specs.Words.{syndrome, Checks};
 
@@ -68,21 +68,21 @@ pub(crate) fn syndromes_into(word: &[u8], sums: &mut [u8])
 /// Whether the first `few` check sums of the word are 0.
 fn first_vanish(word: &[u8], few: usize) -> bool
     requires { few ≤ 6 }
-    ensures { Decides result (Checks few word.now) }
+    ensures { IsTrue result ↔ Checks few word.now }
 {
     six_sums(word)[..few].iter().all(|sum| *sum == 0)
 }
 
 /// Whether the check sums of the word from `k` on to `r` are 0.
 fn others_vanish(word: &[u8], k: usize, r: usize) -> bool
-    ensures { Decides result ((e : ℕ) → k ≤ e → e < r → syndrome e word.now ≡ 0) }
+    ensures { IsTrue result ↔ ((e : ℕ) → k ≤ e → e < r → syndrome e word.now ≡ 0) }
 {
     (k..r).all(|e| evaluate(word, e) == 0)
 }
 
 /// Whether the first `r` check sums of the word are 0.
 pub fn checks(word: &[u8], r: usize) -> bool
-    ensures { Decides result (Checks r word.now) }
+    ensures { IsTrue result ↔ Checks r word.now }
 {
     // The check sums repeat after 255 exponents.
     first_vanish(word, r.min(6)) && others_vanish(word, 6, r.min(255))

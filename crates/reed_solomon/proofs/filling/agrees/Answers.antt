@@ -9,8 +9,8 @@ use Rattle.reed_solomon.proofs.filling.agrees.Goals as goal
 pub returns : goal.returns
 returns c =
     let word = c.args.word.now in
-    let xs = c.args.xs.now in
-    let vs = c.args.vs.now in
+    let xs = c.args.weights.now in
+    let vs = c.args.values.now in
     let k = c.args.k in
     let r = c.args.r in
     decides-range (λ e. syndrome e word ≡ vsum e xs vs) k r c.all.result

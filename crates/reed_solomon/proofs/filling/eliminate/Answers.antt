@@ -10,7 +10,7 @@ returns c =
     record {
       head =
           elim (cases_lt 0 i) [
-            | inl h ↦ c.loop-sum.invariant.swept 0 h ∙ ap (bit_xor _) (gmul-zero-r c.args.x) ∙ xor_zero_r _
+            | inl h ↦ c.loop-sum.invariant.swept 0 h ∙ ap (bit_xor _) (gmul-zero-r c.args.weight) ∙ xor_zero_r _
             | inr h ↦ c.loop-sum.invariant.kept 0 h
           ];
       tail = λ e h. c.loop-sum.invariant.swept (suc e) (omega arith);

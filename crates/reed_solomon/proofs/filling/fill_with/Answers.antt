@@ -7,50 +7,50 @@ use Rattle.reed_solomon.proofs.Patches.{distinct-weights}
 use Rattle.reed_solomon.proofs.Recursion.{bytes-from}
 use Rattle.reed_solomon.proofs.filling.fill_with.Goals as goal
 
-pub weights-requires : goal.weights-requires
-weights-requires c =
+pub weigh-requires : goal.weigh-requires
+weigh-requires c =
     record {
       n_bound = omega (arith, c.requires.fit.size);
-      out_len = c.requires.xs_len;
-      by_index = λ i h. All-get_or (λ p. p < length c.args.word.now) c.args.lost.now i 0 h c.requires.fit.places.within;
+      weights_len = c.requires.weights_len;
+      within = c.requires.fit.places.within;
     }
 
 pub solve-requires : goal.solve-requires
 solve-requires c = record {
-  s_len = c.syndromes_into.auto.sums ∙ c.requires.vs_len ∙ sym c.requires.xs_len ∙ sym c.weights.auto.out;
-  distinct = subst Distinct (sym c.weights.ensures) (distinct-weights (length c.args.word.now) c.args.lost.now (omega (arith, c.requires.fit.size)) c.requires.fit.places.within c.requires.fit.places.once);
+  sums_len = c.syndromes_into.auto.sums ∙ c.requires.values_len ∙ sym c.requires.weights_len ∙ sym c.weigh.auto.weights;
+  distinct = subst Distinct (sym c.weigh.ensures) (distinct-weights (length c.args.word.now) c.args.lost.now (omega (arith, c.requires.fit.size)) c.requires.fit.places.within c.requires.fit.places.once);
 }
 
 pub add_at-requires : goal.add_at-requires
 add_at-requires c =
     record {
-      vs_len = c.solve.auto.s ∙ c.syndromes_into.auto.sums ∙ c.requires.vs_len;
-      by_index = λ i h. All-get_or (λ p. p < length c.args.word.now) c.args.lost.now i 0 h c.requires.fit.places.within;
+      values_len = c.solve.auto.sums ∙ c.syndromes_into.auto.sums ∙ c.requires.values_len;
+      within = c.requires.fit.places.within;
     }
 
 pub returns-clause-ok : goal.returns-clause-ok
 returns-clause-ok c =
     let b = c.args.word.now in
     let ps = c.args.lost.now in
-    let vs = c.solve.new.s in
-    let low = sums-agree ps b c.weights.new.out c.syndromes_into.new.sums vs c.weights.ensures (c.syndromes_into.auto.sums ∙ c.requires.vs_len) c.syndromes_into.ensures c.solve.ensures in
+    let vs = c.solve.new.sums in
+    let low = sums-agree ps b c.weigh.new.weights c.syndromes_into.new.sums vs c.weigh.ensures (c.syndromes_into.auto.sums ∙ c.requires.values_len) c.syndromes_into.ensures c.solve.ensures in
     subst (Filled c.args.r ps b) (sym c.add_at.ensures)
     (filled c.args.r ps b vs (omega (arith, c.requires.fit.size)) c.requires.fit.places c.requires.fit.few low
-    (λ e g h. c.if-not-agrees.ensures.0 refl e g h ∙ ap (λ x. vsum e x vs) c.weights.ensures))
+    (λ e g h. c.if-not-agrees.ensures.0 refl e g h ∙ ap (λ x. vsum e x vs) c.weigh.ensures))
 
 pub returns-then-not-agrees-clause-err : goal.returns-then-not-agrees-clause-err
 returns-then-not-agrees-clause-err c =
     let b = c.args.word.now in
     let ps = c.args.lost.now in
-    let vs = c.solve.new.s in
-    let low = sums-agree ps b c.weights.new.out c.syndromes_into.new.sums vs c.weights.ensures (c.syndromes_into.auto.sums ∙ c.requires.vs_len) c.syndromes_into.ensures c.solve.ensures in
+    let vs = c.solve.new.sums in
+    let low = sums-agree ps b c.weigh.new.weights c.syndromes_into.new.sums vs c.weigh.ensures (c.syndromes_into.auto.sums ∙ c.requires.values_len) c.syndromes_into.ensures c.solve.ensures in
     let bb : (i : ℕ) → get_or b i 0 < 256 = λ i. search rules in
     let bv : (i : ℕ) → get_or vs i 0 < 256 = λ i. search rules in
-    let bad : ((e : ℕ) → length ps ≤ e → e < c.args.r → syndrome e b ≡ vsum e c.weights.new.out vs) → ⊥ =
+    let bad : ((e : ℕ) → length ps ≤ e → e < c.args.r → syndrome e b ≡ vsum e c.weigh.new.weights vs) → ⊥ =
     λ high. subst T (sym (c.if-not-agrees.ensures.1 high)) tt in
     record {
       same = refl;
       none =
           no_other c.args.r ps b vs (omega (arith, c.requires.fit.size)) c.requires.fit.places c.requires.fit.few low (bytes-from b bb) (bytes-from vs bv)
-          (λ high. bad (λ e g h. high e g h ∙ ap (λ x. vsum e x vs) (sym c.weights.ensures)));
+          (λ high. bad (λ e g h. high e g h ∙ ap (λ x. vsum e x vs) (sym c.weigh.ensures)));
     }

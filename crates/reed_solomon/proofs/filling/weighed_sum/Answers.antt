@@ -10,8 +10,8 @@ use Rattle.reed_solomon.proofs.filling.weighed_sum.Goals as goal
 pub returns : goal.returns
 returns c =
     let e = c.args.e in
-    let xs = c.args.xs.now in
-    let vs = c.args.vs.now in
+    let xs = c.args.weights.now in
+    let vs = c.args.values.now in
     fold_from_yields_List _ bit_xor 0 c.fold.result c.fold.ensures.ran
     (YieldsList-from_map _ (λ p. gmul p.1 (gpow p.0 e)) (YieldsList-from_zip (YieldsList-from_slice xs cc) (YieldsList-from_slice vs cc)) refl (λ x r q h. search rules))
     (λ a x b q h. search rules)
