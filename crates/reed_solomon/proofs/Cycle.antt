@@ -6,7 +6,7 @@ use Rattle.galois.specs.Galois.{gmul, alpha}
 use Rattle.reed_solomon.specs.Words.{syndrome, Checks, Filled, Refused}
 use Rattle.galois.proofs.Powers.{alpha-mod, alpha-mod-mul}
 
-pub syndrome-mod : (e : ℕ) (b : List ℕ) → syndrome (e % 255) b ≡ syndrome e b
+syndrome-mod : (e : ℕ) (b : List ℕ) → syndrome (e % 255) b ≡ syndrome e b
 unfolding syndrome
 syndrome-mod e [] = refl
 syndrome-mod e (x ∷ xs) =
@@ -21,7 +21,7 @@ checks-all r b c e h = go (dec_lt r 255)
     go (yes l) = c e (omega arith)
     go (no g) = let m : e % 255 < 255 = mod-lt e (lit< tt) in sym (syndrome-mod e b) ∙ c (e % 255) (omega arith)
 
-pub checks-less : (r : ℕ) (b : List ℕ) → Checks r b → Checks (min r 255) b
+checks-less : (r : ℕ) (b : List ℕ) → Checks r b → Checks (min r 255) b
 checks-less r b c e h = c e (omega arith)
 
 pub filled-all : (r : ℕ) (ps b u : List ℕ) → Filled (min r 255) ps b u → Filled r ps b u

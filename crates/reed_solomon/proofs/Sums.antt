@@ -16,7 +16,7 @@ syn-lt e (x ∷ xs) = xor_lt 8 _ _ (gmul-lt x (alpha (e * length xs))) (syn-lt e
 
 -- ---- a check sum, by Horner's rule
 
-pub syn-push : (e x : ℕ) (xs : List ℕ) → x < 256 → syndrome e (xs ++ x ∷ []) ≡ bit_xor (gmul (syndrome e xs) (alpha e)) x
+syn-push : (e x : ℕ) (xs : List ℕ) → x < 256 → syndrome e (xs ++ x ∷ []) ≡ bit_xor (gmul (syndrome e xs) (alpha e)) x
 unfolding syndrome gpow
 syn-push e x [] h =
     xor_zero_r (gmul x (alpha (e * 0))) ∙ ap (λ z. gmul x (alpha z)) (mul-zero e) ∙ gmul-one-r x h ∙ ap (λ z. bit_xor z x) (sym (gmul-zero-l (alpha e)))

@@ -1,4 +1,4 @@
-ghost use Rattle.std.specs.Prelude.{◌≡◌, ◌<◌, ◌≤◌, length, ◌↔◌, IsTrue, OnOk, OnErr};
+ghost use Rattle.std.specs.Prelude.{◌≡◌, ◌<◌, ◌≤◌, length, ◌↔◌, IsTrue, IsOk, OnOk, OnErr};
 ghost use Rattle.reed_solomon.specs.Interleaves.{interleaved, Refilled, Unfilled, Reaches};
 ghost use Rattle.reed_solomon.specs.Words.{Checks, Places, CodeFills};
 
@@ -80,7 +80,8 @@ impl Code {
     }
 
     /// Gives the lost bytes of the word that lies interleaved in memory the values that make it one
-    /// of the code, or leaves the memory as it is where there are none.
+    /// of the code, or leaves the memory as it is where there are none. For as many lost bytes as
+    /// check bytes there always are.
     pub fn fill_interleaved(
         &self,
         memory: &mut [u8],
@@ -94,6 +95,7 @@ impl Code {
         requires lost_len_bound { length lost.now ≤ self.now.check_bytes }
         ensures ok { OnOk result (Refilled self.now.check_bytes lost.now memory.old memory.new at.start at.stride self.now.length) }
         ensures err { OnErr result (Unfilled self.now.check_bytes lost.now memory.old memory.new at.start at.stride self.now.length) }
+        ensures always { length lost.now ≡ self.now.check_bytes → IsOk result }
     {
         if self.length <= SHORT {
             self.fill_gathered::<SHORT>(memory, at, lost)
@@ -117,6 +119,7 @@ impl Code {
         requires lost_len_bound { length lost.now ≤ self.now.check_bytes }
         ensures ok { OnOk result (Refilled self.now.check_bytes lost.now memory.old memory.new at.start at.stride self.now.length) }
         ensures err { OnErr result (Unfilled self.now.check_bytes lost.now memory.old memory.new at.start at.stride self.now.length) }
+        ensures always { length lost.now ≡ self.now.check_bytes → IsOk result }
     {
         let mut room = [0u8; N];
         let gathered = &mut room[..self.length];

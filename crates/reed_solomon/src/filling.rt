@@ -1,4 +1,4 @@
-ghost use Rattle.std.specs.Prelude.{◌≡◌, ℕ, ◌-◌, ◌<◌, ◌≤◌, map, length, ◌↔◌, IsTrue, OnOk, OnErr, ◌≢◌, bit_xor, slice_index};
+ghost use Rattle.std.specs.Prelude.{◌≡◌, ℕ, ◌-◌, ◌<◌, ◌≤◌, map, length, ◌↔◌, IsTrue, IsOk, OnOk, OnErr, ◌≢◌, bit_xor, slice_index};
 ghost use Rattle.galois.specs.Galois.{gmul, ginv, alpha};
 ghost use Rattle.reed_solomon.specs.Steps.{xsum, vsum, patch, Swept};
 ghost use Rattle.reed_solomon.specs.Words.{syndrome, Distinct, Within, Fit, Filled, Refused, Fills};
@@ -47,7 +47,7 @@ fn divide(values: &mut [u8], weights: &[u8], weight: u8)
     requires by_index { (i : ℕ) → i < length weights.now → slice_index weights.now i ≢ weight }
     ensures { (i : ℕ) → i < length values.new → slice_index values.new i ≡ gmul (slice_index values.old i) (ginv (bit_xor (slice_index weights.now i) weight)) }
 {
-    // By index, since nothing is known of values that a `zip` has lent.
+    // By index: after a `zip` of `iter_mut` nothing is known of the values.
     for (i, v) in values.iter_mut().enumerate() {
         *v = field::multiply(*v, field::reciprocal(weights[i] ^ weight));
     }
@@ -76,7 +76,7 @@ fn weigh(n: usize, places: &[usize], weights: &mut [u8])
     requires within { Within n places.now }
     ensures { weights.new ≡ map (λ p. alpha (n - 1 - p)) places.now }
 {
-    // By index, since nothing is known of weights that a `zip` has lent.
+    // By index: after a `zip` of `iter_mut` nothing is known of the weights.
     for (i, p) in places.iter().enumerate() {
         weights[i] = field::exp(n - 1 - *p);
     }
@@ -114,6 +114,7 @@ fn fill_with(
     requires values_len { length values.old ≡ length lost.now }
     ensures ok { OnOk result (Filled r lost.now word.old word.new) }
     ensures err { OnErr result (Refused r lost.now word.old word.new) }
+    ensures always { length lost.now ≡ r → IsOk result }
 {
     weigh(word.len(), lost, weights);
     syndromes::syndromes_into(word, values);
@@ -132,6 +133,7 @@ fn fill_up_to<const N: usize>(word: &mut [u8], lost: &[usize], r: usize) -> Resu
     requires memory { N ≤ 255 }
     ensures ok { OnOk result (Filled r lost.now word.old word.new) }
     ensures err { OnErr result (Refused r lost.now word.old word.new) }
+    ensures always { length lost.now ≡ r → IsOk result }
 {
     let mut weights = [0u8; N];
     let mut values = [0u8; N];
@@ -140,11 +142,13 @@ fn fill_up_to<const N: usize>(word: &mut [u8], lost: &[usize], r: usize) -> Resu
 }
 
 /// Gives the lost bytes the values with which the word checks to `r`, or leaves it as it is where
-/// there are none. For callers that know what they pass; `fill` tests it.
+/// there are none; for exactly `r` lost bytes there always are. For callers that know what they
+/// pass; `fill` tests it.
 pub fn fill_places(word: &mut [u8], lost: &[usize], r: usize) -> Result<(), Unfillable>
     requires { Fit r lost.now word.old }
     ensures ok { OnOk result (Filled r lost.now word.old word.new) }
     ensures err { OnErr result (Refused r lost.now word.old word.new) }
+    ensures always { length lost.now ≡ r → IsOk result }
 {
     // Few lost bytes, as many as the three codes ever have, need less memory.
     if lost.len() <= FEW {
@@ -166,12 +170,10 @@ fn all_within(places: &[usize], n: usize) -> bool
 fn all_distinct(places: &[usize]) -> bool
     ensures { IsTrue result ↔ Distinct places.now }
 {
-    for (i, p) in places.iter().enumerate() {
-        if places[..i].contains(p) {
-            return false;
-        }
-    }
-    true
+    places
+        .iter()
+        .enumerate()
+        .all(|(i, p)| !places[..i].contains(p))
 }
 
 /// Gives the lost bytes of the word the values with which it checks to `r`. Where there are none,
