@@ -1,5 +1,5 @@
 -- The powers, the inverse, and that every byte but 0 is a power of 2.
-use Rattle.std.proofs.Common.{◌≡◌, ℕ, zero, suc, ◌+◌, ◌-◌, ◌*◌, ◌/◌, ◌%◌, ◌<◌, cond, ltb, ◌≢◌, ◌⊎◌, get_or, sym, refl, ap, ◌∙◌, ap₂, inl, inr, mul_comm, add_comm, suc-add, mul-zero, zero-add, mul-suc, arith, lit<, ltb→lt}
+use Rattle.std.proofs.Common.{◌≡◌, ℕ, zero, suc, ◌+◌, ◌-◌, ◌*◌, ◌/◌, ◌%◌, ◌<◌, cond, ltb, ◌≢◌, ◌⊎◌, get_or, sym, refl, ap, ◌∙◌, ap₂, inl, inr, mul_comm, add_comm, suc-add, mul-zero, zero-add, mul-suc, arith, lit<}
 use lib.Bits.{bit_xor}
 use Rattle.galois.specs.Galois.{xtime, horner, gmul, gpow, alpha, ginv, Field}
 use Rattle.galois.proofs.Below.{at-eq, at-lt}

@@ -1,6 +1,6 @@
 -- Check sums and sums of values, as loops and folds add them up.
 use Rattle.std.proofs.Common.{◌≡◌, ℕ, zero, suc, ◌+◌, ◌-◌, ◌*◌, ◌<◌, List, [], ◌∷◌, ◌++◌, length, get_or, take, drop, set, map, fold, sym, refl, ap, ◌∙◌, ap₂, mul-zero, mul-suc, add-one, append_assoc, arith, lit<}
-use lib.Bits.{bit_xor, xor_lt, xor_zero_l, xor_zero_r, xor_assoc}
+use lib.Bits.{bit_xor, xor_lt, xor_zero_r, xor_assoc}
 use Rattle.std.specs.List.{zip}
 use Rattle.std.proofs.lemmas.List.{append-nil, length_push, take_more, drop_more}
 use Rattle.galois.specs.Galois.{gmul, gpow, alpha}

@@ -1,5 +1,4 @@
 use Rattle.std.proofs.Common.{◌≡◌, ℕ, ◌<◌, ◌≤◌, T, length, get_or, sym, refl, ap, ◌∙◌, subst, arith, rules}
-use Rattle.std.proofs.ByRecursion.{All-get_or}
 use Rattle.reed_solomon.specs.Steps.{vsum}
 use Rattle.reed_solomon.specs.Words.{syndrome, Distinct, Filled}
 use Rattle.reed_solomon.proofs.Distance.{filled, no_other, sums-agree}
@@ -7,26 +6,10 @@ use Rattle.reed_solomon.proofs.Patches.{distinct-weights}
 use Rattle.reed_solomon.proofs.Recursion.{bytes-from}
 use Rattle.reed_solomon.proofs.filling.fill_with.Goals as goal
 
-pub weigh-requires : goal.weigh-requires
-weigh-requires c =
-    record {
-      n_bound = omega (arith, c.requires.fit.size);
-      weights_len = c.requires.weights_len;
-      within = c.requires.fit.places.within;
-    }
-
-pub solve-requires : goal.solve-requires
-solve-requires c = record {
-  sums_len = c.syndromes_into.auto.sums ∙ c.requires.values_len ∙ sym c.requires.weights_len ∙ sym c.weigh.auto.weights;
-  distinct = subst Distinct (sym c.weigh.ensures) (distinct-weights (length c.args.word.now) c.args.lost.now (omega (arith, c.requires.fit.size)) c.requires.fit.places.within c.requires.fit.places.once);
-}
-
-pub add_at-requires : goal.add_at-requires
-add_at-requires c =
-    record {
-      values_len = c.solve.auto.sums ∙ c.syndromes_into.auto.sums ∙ c.requires.values_len;
-      within = c.requires.fit.places.within;
-    }
+pub solve-requires-clause-distinct : goal.solve-requires-clause-distinct
+solve-requires-clause-distinct c =
+    subst Distinct (sym c.weigh.ensures)
+    (distinct-weights (length c.args.word.now) c.args.lost.now (omega (arith, c.requires.fit.size)) c.requires.fit.places.within c.requires.fit.places.once)
 
 pub returns-clause-ok : goal.returns-clause-ok
 returns-clause-ok c =

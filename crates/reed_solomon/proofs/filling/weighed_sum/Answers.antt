@@ -1,9 +1,8 @@
-use Rattle.std.proofs.Common.{ℕ, map, zip, refl, ◌∙◌, rules}
+use Rattle.std.proofs.Common.{map, zip, refl, ◌∙◌, rules}
 use lib.Bits.{bit_xor, xor_zero_l}
 use Rattle.std.proofs.lemmas.Iterator.{YieldsList-from_slice, YieldsList-from_zip, YieldsList-from_map}
 use Rattle.std.proofs.lemmas.Iterator.Consumers.{fold_from_yields_List}
 use Rattle.galois.specs.Galois.{gmul, gpow}
-use Rattle.reed_solomon.specs.Steps.{vsum}
 use Rattle.reed_solomon.proofs.Sums.{xsum-fold, vsum-is}
 use Rattle.reed_solomon.proofs.filling.weighed_sum.Goals as goal
 

@@ -1,6 +1,6 @@
 use Rattle.std.proofs.Common.{◌≡◌, ℕ, ◌<◌, [], get_or, fold, ap, ◌∙◌, rules}
 use lib.Bits.{bit_xor}
-use Rattle.galois.specs.Galois.{gmul, alpha}
+use Rattle.galois.specs.Galois.{gmul}
 use Rattle.reed_solomon.specs.Words.{syndrome}
 use Rattle.reed_solomon.proofs.Recursion.{bytes-from}
 use Rattle.reed_solomon.proofs.Sums.{syn-fold}

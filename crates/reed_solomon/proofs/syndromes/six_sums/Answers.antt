@@ -1,6 +1,5 @@
-use Rattle.std.proofs.Common.{ℕ, ◌<◌, get_or, take, ap, ◌∙◌, arith, rules}
+use Rattle.std.proofs.Common.{◌<◌, get_or, ◌∙◌, arith, rules}
 use Rattle.std.proofs.lemmas.List.{get_or-replicate}
-use Rattle.std.proofs.lemmas.List.{take_all}
 use Rattle.reed_solomon.specs.Words.{syndrome}
 use Rattle.reed_solomon.proofs.Sums.{syn-more}
 use Rattle.reed_solomon.proofs.syndromes.six_sums.Goals as goal
@@ -15,6 +14,3 @@ loop-byte-preserved c =
     let i = c.loop-byte.byte-index in
     let byte : get_or word i 0 < 256 = search rules in
     λ e h. c.add_byte.ensures e h ∙ syn-more e i (get_or c.loop-byte.sums e 0) word (omega arith) byte (c.loop-byte.invariant e h)
-
-pub returns : goal.returns
-returns c = λ e h. c.loop-byte.invariant e h ∙ ap (syndrome e) (take_all c.loop-byte.byte-index c.args.word.now (omega arith))

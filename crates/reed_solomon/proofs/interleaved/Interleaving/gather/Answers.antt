@@ -1,6 +1,5 @@
 use Rattle.std.proofs.Common.{◌+◌, ◌*◌, length, get_or, arith}
 use Rattle.std.proofs.lemmas.List.FromFn.{fill_by_all}
-use Rattle.std.proofs.lemmas.List.Edits.{fill_by_more}
 use Rattle.reed_solomon.specs.Interleaves.{interleaved}
 use Rattle.reed_solomon.proofs.interleaved.Interleaving.gather.Goals as goal
 
@@ -9,7 +8,3 @@ unfolding interleaved
 returns c =
     fill_by_all (λ j. get_or c.args.memory.now (c.args.self.start + c.args.self.stride * j) 0) c.loop-j.word (length c.args.word.now) 0
     c.loop-j.auto.word (λ k h. c.loop-j.invariant k (omega arith))
-
-pub loop-j-preserved : goal.loop-j-preserved
-loop-j-preserved c =
-    fill_by_more (λ j. get_or c.args.memory.now (c.args.self.start + c.args.self.stride * j) 0) c.loop-j.word c.loop-j.j 0 (omega arith) c.loop-j.invariant

@@ -14,11 +14,3 @@ loop-j-preserved c =
           (get_or-set_same c.loop-j.memory at v 0 l),
       λ p h. get_or-set_other c.loop-j.memory at p v 0 (h c.loop-j.j (omega arith)) ∙ c.loop-j.invariant.1 p (λ k g. h k (omega arith)),
     )
-
-pub returns : goal.returns
-returns c =
-    record {
-      size = c.loop-j.auto.memory;
-      word = λ j h. c.loop-j.invariant.0 j (omega arith);
-      others = λ p h. c.loop-j.invariant.1 p (λ k g. h k (omega arith));
-    }
