@@ -102,6 +102,8 @@ fn agrees(word: &[u8], weights: &[u8], values: &[u8], k: usize, r: usize) -> boo
 
 /// Fills in memory that is lent for the weights and the values. These are two slices and no slice
 /// of pairs, since the values change and the weights stay.
+// Inlined, since its callers mostly know how long the word is and how many bytes are lost.
+#[inline(always)]
 fn fill_with(
     word: &mut [u8],
     lost: &[usize],
