@@ -1,34 +1,9 @@
--- A rule for every number below a bound, by one test that antt computes.
-use Rattle.std.proofs.Common.{◌≡◌, ℕ, zero, suc, ◌<◌, Bool, true, false, T, eqb, sym, subst, inl, inr, le_of_suc-le-suc, not-suc-le-zero, eq-or-lt_of_le, eqb→eq}
+-- A rule for every number below a bound, by one test that antt computes: the answer `refl`.
+use Rattle.std.proofs.Common.{◌≡◌, ℕ, ◌<◌, true, eqb, ltb}
+use Rattle.std.proofs.lemmas.Bool.{agree_below, agree_below_at, eqb-true, ltb-true}
 
-both : Bool → Bool → Bool
-both true b = b
-both false b = false
+pub at-eq : (f g : ℕ → ℕ) (n : ℕ) → agree_below (λ k. eqb (f k) (g k)) (λ _. true) n ≡ true → (k : ℕ) → k < n → f k ≡ g k
+at-eq f g n t k h = eqb-true (f k) (g k) (agree_below_at (λ k. eqb (f k) (g k)) (λ _. true) n k t h)
 
-both_left : (a b : Bool) → T (both a b) → T a
-unfolding both
-both_left true b t = tt
-both_left false b t = t
-
-both_right : (a b : Bool) → T (both a b) → T b
-unfolding both
-both_right true b t = t
-both_right false b t = absurd t
-
--- the test passes at each number below n. `unfolding below` at the proof by `tt`
-unfoldable pub below : (ℕ → Bool) → ℕ → Bool
-unfolding both
-below f zero = true
-below f (suc n) = both (f n) (below f n)
-
-pub at : (f : ℕ → Bool) (n : ℕ) → T (below f n) → (k : ℕ) → k < n → T (f k)
-unfolding below
-at f zero t k h = absurd (not-suc-le-zero h)
-at f (suc n) t k h =
-    elim (eq-or-lt_of_le (le_of_suc-le-suc h)) [
-      | inl e ↦ subst (λ (m : ℕ). T (f m)) (sym e) (both_left (f n) (below f n) t)
-      | inr l ↦ at f n (both_right (f n) (below f n) t) k l
-    ]
-
-pub at-eq : (f g : ℕ → ℕ) (n : ℕ) → T (below (λ k. eqb (f k) (g k)) n) → (k : ℕ) → k < n → f k ≡ g k
-at-eq f g n t k h = eqb→eq (f k) (g k) (at (λ k. eqb (f k) (g k)) n t k h)
+pub at-lt : (f g : ℕ → ℕ) (n : ℕ) → agree_below (λ k. ltb (f k) (g k)) (λ _. true) n ≡ true → (k : ℕ) → k < n → f k < g k
+at-lt f g n t k h = ltb-true (f k) (g k) (agree_below_at (λ k. ltb (f k) (g k)) (λ _. true) n k t h)

@@ -1,8 +1,8 @@
 -- The powers, the inverse, and that every byte but 0 is a power of 2.
-use Rattle.std.proofs.Common.{◌≡◌, ℕ, zero, suc, ◌+◌, ◌-◌, ◌*◌, ◌/◌, ◌%◌, ◌<◌, cond, ltb, ◌≢◌, ◌⊎◌, get_or, sym, refl, ap, ◌∙◌, ap₂, inl, inr, mul_comm, add_comm, suc-add, mul-zero, zero-add, mul-suc, arith, lit<, ltb→lt}
+use Rattle.std.proofs.Common.{◌≡◌, ℕ, zero, suc, ◌+◌, ◌-◌, ◌*◌, ◌/◌, ◌%◌, ◌<◌, cond, ltb, ◌≢◌, ◌⊎◌, get_or, sym, refl, ap, ◌∙◌, ap₂, inl, inr, mul_comm, add_comm, suc-add, mul-zero, zero-add, mul-suc, arith, lit<}
 use lib.Bits.{bit_xor}
 use Rattle.galois.specs.Galois.{xtime, horner, gmul, gpow, alpha, ginv, Field}
-use Rattle.galois.proofs.Below.{below, at, at-eq}
+use Rattle.galois.proofs.Below.{at-eq, at-lt}
 use Rattle.galois.proofs.Laws.{gmul-lt, gmul-comm, gmul-assoc, gmul-one-l, gmul-one-r, gmul-zero-l, gmul-xor-r}
 use Rattle.galois.proofs.PowerTables.{exps, logs, products}
 use Rattle.std.proofs.lemmas.List.FromFn.{get_or-map-range_with_len}
@@ -22,7 +22,7 @@ unfolding gpow
 gpow-mul x i zero = ap (gpow x) (mul-zero i)
 gpow-mul x i (suc j) = ap (gpow x) (mul-suc i j ∙ add_comm (i * j) i) ∙ gpow-add x i (i * j) ∙ ap (gmul (gpow x i)) (gpow-mul x i j)
 
-pub gpow-one : (e : ℕ) → gpow 1 e ≡ 1
+gpow-one : (e : ℕ) → gpow 1 e ≡ 1
 unfolding gpow
 gpow-one zero = refl
 gpow-one (suc e) = gmul-one-l (gpow 1 e) (gpow-lt 1 e) ∙ gpow-one e
@@ -42,8 +42,8 @@ inv-nought a h = gpow-nought a 254 h (λ e. omega (arith, e))
 
 -- the table of powers: one computed test of the step
 exps-step : (i : ℕ) → i < 509 → get_or exps (suc i) 0 ≡ gmul 2 (get_or exps i 0)
-unfolding below exps gmul horner xtime
-exps-step i h = at-eq (λ i. get_or exps (suc i) 0) (λ i. gmul 2 (get_or exps i 0)) 509 tt i h
+unfolding exps gmul horner xtime
+exps-step i h = at-eq (λ i. get_or exps (suc i) 0) (λ i. gmul 2 (get_or exps i 0)) 509 refl i h
 
 pub exps-at : (i : ℕ) → i < 510 → get_or exps i 0 ≡ alpha i
 unfolding gpow
@@ -51,8 +51,8 @@ exps-at zero h = unfold exps in refl
 exps-at (suc i) h = exps-step i (omega arith) ∙ ap (gmul 2) (exps-at i (omega arith))
 
 pub logs-lt : (a : ℕ) → a < 256 → get_or logs a 0 < 255
-unfolding below logs
-logs-lt a h = ltb→lt (get_or logs a 0) 255 (at (λ a. ltb (get_or logs a 0) 255) 256 tt a h)
+unfolding logs
+logs-lt a h = at-lt (λ a. get_or logs a 0) (λ _. 255) 256 refl a h
 
 pub products_at : (e x : ℕ) → e < 6 → x < 256 → get_or products (256 * e + x) 0 ≡ gmul x (alpha e)
 unfolding products
@@ -65,8 +65,8 @@ products_at e x h k =
 
 -- every byte but 0 is a power of 2
 logs-test : (a : ℕ) → a < 255 → get_or exps (get_or logs (suc a) 0) 0 ≡ suc a
-unfolding below exps logs
-logs-test a h = at-eq (λ a. get_or exps (get_or logs (suc a) 0) 0) suc 255 tt a h
+unfolding exps logs
+logs-test a h = at-eq (λ a. get_or exps (get_or logs (suc a) 0) 0) suc 255 refl a h
 
 pub logs_at : (a : ℕ) → 0 < a → a < 256 → alpha (get_or logs a 0) ≡ a
 logs_at zero p h = absurd (omega arith)
@@ -74,8 +74,8 @@ logs_at (suc a) p h = sym (exps-at (get_or logs (suc a) 0) (let l : get_or logs 
 
 -- the powers of 2 below the exponent 255 are all different
 logs-back : (i : ℕ) → i < 255 → get_or logs (get_or exps i 0) 0 ≡ i
-unfolding below exps logs
-logs-back i h = at-eq (λ i. get_or logs (get_or exps i 0) 0) (λ i. i) 255 tt i h
+unfolding exps logs
+logs-back i h = at-eq (λ i. get_or logs (get_or exps i 0) 0) (λ i. i) 255 refl i h
 
 pub alpha-inj : (i j : ℕ) → i < 255 → j < 255 → alpha i ≡ alpha j → i ≡ j
 alpha-inj i j hi hj e =
@@ -85,7 +85,7 @@ pub alpha-8 : alpha 8 ≡ 29
 unfolding gpow gmul horner xtime
 alpha-8 = refl
 
-pub alpha-255 : alpha 255 ≡ 1
+alpha-255 : alpha 255 ≡ 1
 unfolding gpow gmul horner xtime
 alpha-255 = refl
 
@@ -99,7 +99,7 @@ alpha-mod i =
 
 -- ---- the inverse
 
-pub pow-255 : (a : ℕ) → 0 < a → a < 256 → gpow a 255 ≡ 1
+pow-255 : (a : ℕ) → 0 < a → a < 256 → gpow a 255 ≡ 1
 pow-255 a p h =
     let l : ℕ = get_or logs a 0 in
     ap (λ x. gpow x 255) (sym (logs_at a p h)) ∙ sym (gpow-mul 2 l 255) ∙ ap alpha (mul_comm l 255) ∙ gpow-mul 2 255 l
@@ -108,7 +108,7 @@ pow-255 a p h =
 pub gmul-inv : (a : ℕ) → 0 < a → a < 256 → gmul a (ginv a) ≡ 1
 gmul-inv a p h = unfold ginv gpow in pow-255 a p h
 
-pub ginv-lt : (a : ℕ) → ginv a < 256
+ginv-lt : (a : ℕ) → ginv a < 256
 unfolding ginv
 ginv-lt a = gpow-lt a 254
 
@@ -134,8 +134,8 @@ alpha-mod-both i j =
     alpha-mod-mul (i % 255) j ∙ ap alpha (mul_comm (i % 255) j) ∙ sym (alpha-mod (j * (i % 255))) ∙ alpha-mod-mul j i ∙ ap alpha (mul_comm j i)
 
 shift : (a : ℕ) → a < 256 → gmul 2 a ≡ cond (ltb a 128) (a * 2) (bit_xor (a * 2) 0x11D)
-unfolding below gmul horner xtime
-shift a h = at-eq (gmul 2) (λ a. cond (ltb a 128) (a * 2) (bit_xor (a * 2) 0x11D)) 256 tt a h
+unfolding gmul horner xtime
+shift a h = at-eq (gmul 2) (λ a. cond (ltb a 128) (a * 2) (bit_xor (a * 2) 0x11D)) 256 refl a h
 
 whole : (a b : ℕ) → a < 256 → b < 256 → gmul a b ≡ 0 → (a ≡ 0) ⊎ (b ≡ 0)
 whole a zero ha hb e = inr refl

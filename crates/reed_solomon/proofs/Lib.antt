@@ -4,4 +4,5 @@ pub mod Patches
 pub mod Distance
 pub mod Cycle
 pub mod PlaceLists
+pub mod Ranges
 pub mod Recursion

@@ -1,3 +1,6 @@
+ghost use Rattle.std.specs.Prelude.{◌≡◌};
+ghost use Rattle.reed_solomon.specs.declared.fault.FillFault.TheVariants.{NoFilling};
+
 /// Why a word was not filled.
 #[derive(Clone, Copy, PartialEq, Eq, Debug, Drop)]
 pub enum FillFault {
@@ -11,4 +14,16 @@ pub enum FillFault {
     TooManyLost,
     /// No values of the lost bytes make the word check.
     NoFilling,
+}
+
+/// No values of the lost bytes make the word check: the one fault of a call that can be taken.
+#[derive(Clone, Copy, PartialEq, Eq, Debug)]
+pub struct Unfillable;
+
+impl From<Unfillable> for FillFault {
+    ghost from_gives = { λ _ fault. fault ≡ NoFilling };
+
+    fn from(_: Unfillable) -> FillFault {
+        FillFault::NoFilling
+    }
 }

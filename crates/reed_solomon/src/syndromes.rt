@@ -1,4 +1,4 @@
-ghost use Rattle.std.specs.Prelude.{◌≡◌, ℕ, ◌<◌, ◌≤◌, length, Decides, slice_index};
+ghost use Rattle.std.specs.Prelude.{◌≡◌, ℕ, ◌<◌, ◌≤◌, length, ◌↔◌, IsTrue, bit_xor, slice_index};
 ghost use Rattle.galois.specs.Galois.{gmul, alpha};
 ghost use Rattle.reed_solomon.specs.Words.{syndrome, Checks};
 
@@ -12,8 +12,8 @@ pub fn check_sum(word: &[u8], e: usize) -> u8
 {
     let last = word.len().saturating_sub(1);
     let mut sum = 0;
-    for (j, b) in word.iter().enumerate() {
-        sum ^= field::multiply(*b, field::exp((e % 255) * ((last - j) % 255)));
+    for (j, byte) in word.iter().enumerate() {
+        sum ^= field::multiply(*byte, field::exp((e % 255) * ((last - j) % 255)));
     }
     sum
 }
@@ -23,11 +23,8 @@ pub(crate) fn evaluate(word: &[u8], e: usize) -> u8
     ensures { result ≡ syndrome e word.now }
 {
     let x = field::exp(e);
-    let mut sum = 0;
-    for v in word {
-        sum = field::multiply(sum, x) ^ *v;
-    }
-    sum
+    word.iter()
+        .fold(0, |sum, byte| field::multiply(sum, x) ^ *byte)
 }
 
 /// The byte `x` times 2 to the power `e`, by the table for the few powers that the three codes use.
@@ -38,20 +35,24 @@ fn times_power(x: u8, e: usize) -> u8
     TIMES[256 * e + x as usize]
 }
 
+/// Takes one more byte of a word into its first six check sums.
+fn add_byte(sums: &mut [u8; 6], byte: u8)
+    ensures { (e : ℕ) → e < 6 → slice_index sums.new e ≡ bit_xor (gmul (slice_index sums.old e) (alpha e)) byte }
+{
+    for (e, sum) in sums.iter_mut().enumerate() {
+        *sum = times_power(*sum, e) ^ byte;
+    }
+}
+
 /// The first six check sums of the word, in one pass over it.
 fn six_sums(word: &[u8]) -> [u8; 6]
-    ensures { (length result ≡ 6) × ((e : ℕ) → e < 6 → slice_index result e ≡ syndrome e word.now) }
+    ensures { (e : ℕ) → e < 6 → slice_index result e ≡ syndrome e word.now }
 {
-    let (mut s0, mut s1, mut s2, mut s3, mut s4, mut s5) = (0, 0, 0, 0, 0, 0);
-    for b in word {
-        s0 = times_power(s0, 0) ^ *b;
-        s1 = times_power(s1, 1) ^ *b;
-        s2 = times_power(s2, 2) ^ *b;
-        s3 = times_power(s3, 3) ^ *b;
-        s4 = times_power(s4, 4) ^ *b;
-        s5 = times_power(s5, 5) ^ *b;
+    let mut sums = [0; 6];
+    for byte in word {
+        add_byte(&mut sums, *byte);
     }
-    [s0, s1, s2, s3, s4, s5]
+    sums
 }
 
 /// The first check sums of the word, as many as there is room for.
@@ -59,44 +60,30 @@ pub(crate) fn syndromes_into(word: &[u8], sums: &mut [u8])
     ensures { (e : ℕ) → e < length sums.new → slice_index sums.new e ≡ syndrome e word.now }
 {
     let six = six_sums(word);
-    for e in 0..sums.len() {
-        sums[e] = if e < 6 { six[e] } else { evaluate(word, e) };
+    for (e, sum) in sums.iter_mut().enumerate() {
+        *sum = if e < 6 { six[e] } else { evaluate(word, e) };
     }
 }
 
 /// Whether the first `few` check sums of the word are 0.
 fn first_vanish(word: &[u8], few: usize) -> bool
     requires { few ≤ 6 }
-    ensures { Decides result (Checks few word.now) }
+    ensures { IsTrue result ↔ Checks few word.now }
 {
-    let six = six_sums(word);
-    for e in 0..few {
-        if six[e] != 0 {
-            return false;
-        }
-    }
-    true
+    six_sums(word)[..few].iter().all(|sum| *sum == 0)
 }
 
 /// Whether the check sums of the word from `k` on to `r` are 0.
 fn others_vanish(word: &[u8], k: usize, r: usize) -> bool
-    ensures { Decides result ((e : ℕ) → k ≤ e → e < r → syndrome e word.now ≡ 0) }
+    ensures { IsTrue result ↔ ((e : ℕ) → k ≤ e → e < r → syndrome e word.now ≡ 0) }
 {
-    for e in k..r {
-        if evaluate(word, e) != 0 {
-            return false;
-        }
-    }
-    true
+    (k..r).all(|e| evaluate(word, e) == 0)
 }
 
 /// Whether the first `r` check sums of the word are 0.
 pub fn checks(word: &[u8], r: usize) -> bool
-    ensures { Decides result (Checks r word.now) }
+    ensures { IsTrue result ↔ Checks r word.now }
 {
-    if !first_vanish(word, r.min(6)) {
-        return false;
-    }
     // The check sums repeat after 255 exponents.
-    others_vanish(word, 6, r.min(255))
+    first_vanish(word, r.min(6)) && others_vanish(word, 6, r.min(255))
 }

@@ -1,29 +1,22 @@
-use Rattle.std.proofs.Common.{◌≡◌, ℕ, ◌-◌, ◌<◌, List, length, sym, ap, ◌∙◌, subst, arith, rules}
-use Rattle.reed_solomon.proofs.Recursion.{rest, rest-length, distinct-rest, rest-apart, rest_put, bytes-from, solve-whole}
+use Rattle.std.proofs.Common.{◌≡◌, ℕ, ◌-◌, ◌<◌, List, ◌∷◌, length, get_or, set, sym, ap, ◌∙◌, subst, rules}
+use lib.Bits.{bit_xor}
+use borrow.Rule.Slice.PartMut.{put_mid}
+use Rattle.reed_solomon.specs.Steps.{vsum}
+use Rattle.reed_solomon.specs.Words.{Bytes, Distinct}
+use Rattle.reed_solomon.proofs.Recursion.{bytes-from, solve-whole}
 use Rattle.reed_solomon.proofs.filling.+solve.Goals as goal
 
-pub solve-requires : goal.solve-requires
-solve-requires t c =
-    let xs : List ℕ = c.args.xs.now in
-    let less : length (rest xs) < length xs = omega (arith, rest-length xs, c.if-xs-gt0.true) in
-    let even : length c.eliminate.new.s - 1 ≡ length xs - 1 = ap (λ n. n - 1) (c.eliminate.auto.s ∙ c.requires.s_len) in
-    (subst (λ m. length (rest xs) < m) c.decreases less, (rest-length c.eliminate.new.s ∙ even ∙ sym (rest-length xs), distinct-rest xs c.requires.distinct))
-
-pub divide-requires : goal.divide-requires
-divide-requires t c =
-    let xs : List ℕ = c.args.xs.now in
-    let even : length c.eliminate.new.s ≡ length xs = c.eliminate.auto.s ∙ c.requires.s_len in
-    record {
-      s_len =
-          ap length (rest_put c.eliminate.new.s c.solve.new.s (omega (arith, even, c.if-xs-gt0.true)))
-          ∙ c.solve.auto.s ∙ rest-length c.eliminate.new.s ∙ ap (λ n. n - 1) even ∙ sym (rest-length xs);
-      by_index = rest-apart xs c.requires.distinct;
-    }
-
-pub returns-then-xs-gt0 : goal.returns-then-xs-gt0
-returns-then-xs-gt0 t c =
-    let even : length c.eliminate.new.s ≡ length c.args.xs.now = c.eliminate.auto.s ∙ c.requires.s_len in
-    solve-whole c.args.xs.now c.args.s.now c.eliminate.new.s c.solve.new.s c.divide.new.s c.sum.result
-    c.if-xs-gt0.true c.requires.s_len c.eliminate.auto.s c.solve.auto.s
-    (c.divide.auto.s ∙ ap length (rest_put c.eliminate.new.s c.solve.new.s (omega (arith, even, c.if-xs-gt0.true)))) c.requires.distinct
-    (bytes-from c.args.xs.now (λ i. (c.type_inv.xs i).fits)) (search rules) c.eliminate.ensures c.solve.ensures c.divide.ensures c.sum.ensures
+pub returns-in-Some : goal.returns-in-Some
+returns-in-Some t c =
+    let x : ℕ = c.in-Some.weight.now in
+    let ys : List ℕ = c.in-Some.others.now in
+    let s : List ℕ = c.eliminate.new.sums in
+    let vs : List ℕ = c.divide.new.values in
+    let after : List ℕ = put_mid 1 (length s - 1) s vs in
+    let byte : (i : ℕ) → get_or c.args.weights.now i 0 < 256 = λ i. search rules in
+    let split : c.args.weights.now ≡ x ∷ ys = c.in-Some.ensures.cases.0 in
+    subst (λ w. (e : ℕ) → e < length w → vsum e w (set after 0 (bit_xor (get_or after 0 0) c.sum-others_sum.result)) ≡ get_or c.args.sums.now e 0) (sym split)
+    (solve-whole x ys c.args.sums.now s c.solve.new.sums vs c.sum-others_sum.result
+    (c.requires.sums_len ∙ ap length split) c.eliminate.auto.sums c.solve.auto.sums c.divide.auto.values
+    (subst Distinct split c.requires.distinct) (subst Bytes split (bytes-from c.args.weights.now byte)) (search rules)
+    c.eliminate.ensures c.solve.ensures c.divide.ensures c.sum-others_sum.ensures)

@@ -2,4 +2,4 @@ use Rattle.std.proofs.Common.{length}
 use Rattle.reed_solomon.proofs.filling.+solve.Given as goal
 
 abbrev pub decreases-solve : goal.decreases-solve
-decreases-solve l = length l.xs.now
+decreases-solve l = length l.weights.now

@@ -4,4 +4,4 @@ use Rattle.galois.specs.Galois.{gmul, ginv}
 use Rattle.reed_solomon.proofs.filling.divide.Given as goal
 
 abbrev pub invariant-loop-i : goal.invariant-loop-i
-invariant-loop-i l = ((k : ℕ) → k < l.i → get_or l.s k 0 ≡ gmul (get_or l.initial.s k 0) (ginv (bit_xor (get_or l.ys k 0) l.x))) × ((k : ℕ) → l.i ≤ k → get_or l.s k 0 ≡ get_or l.initial.s k 0)
+invariant-loop-i l = ((k : ℕ) → k < l.i → get_or l.values k 0 ≡ gmul (get_or l.initial.values k 0) (ginv (bit_xor (get_or l.weights k 0) l.weight))) × ((k : ℕ) → l.i ≤ k → get_or l.values k 0 ≡ get_or l.initial.values k 0)

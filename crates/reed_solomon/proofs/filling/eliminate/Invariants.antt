@@ -1,7 +1,13 @@
-use Rattle.std.proofs.Common.{◌≡◌, ℕ, suc, ◌-◌, ◌<◌, ◌≤◌, get_or}
+use Rattle.std.proofs.Common.{◌≡◌, ℕ, ◌<◌, ◌≤◌, ◌∷◌, get_or}
 use lib.Bits.{bit_xor}
 use Rattle.galois.specs.Galois.{gmul}
 use Rattle.reed_solomon.proofs.filling.eliminate.Given as goal
 
-abbrev pub invariant-loop-e : goal.invariant-loop-e
-invariant-loop-e l = (get_or l.s 0 0 ≡ get_or l.initial.s 0 0) × ((k : ℕ) → suc k < l.e → get_or l.s (suc k) 0 ≡ bit_xor (get_or l.initial.s (suc k) 0) (gmul l.x (get_or l.initial.s k 0))) × ((k : ℕ) → l.e ≤ k → get_or l.s k 0 ≡ get_or l.initial.s k 0) × (l.last ≡ get_or l.initial.s (l.e - 1) 0)
+-- the sum before the one at k is at k of the sums behind a 0
+abbrev pub invariant-loop-sum : goal.invariant-loop-sum
+invariant-loop-sum l =
+    record {
+      swept : (k : ℕ) → k < l.sum-index → get_or l.sums k 0 ≡ bit_xor (get_or l.initial.sums k 0) (gmul l.weight (get_or (0 ∷ l.initial.sums) k 0));
+      kept : (k : ℕ) → l.sum-index ≤ k → get_or l.sums k 0 ≡ get_or l.initial.sums k 0;
+      before : l.before ≡ get_or (0 ∷ l.initial.sums) l.sum-index 0;
+    }

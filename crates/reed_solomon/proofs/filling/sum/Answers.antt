@@ -1,10 +1,11 @@
-use Rattle.std.proofs.Common.{sym, ◌∙◌, arith}
-use Rattle.std.proofs.lemmas.List.{drop_all}
-use Rattle.reed_solomon.proofs.Sums.{xsum-more, xsum-end}
+use Rattle.std.proofs.Common.{◌≡◌, fold, ◌∙◌, rules}
+use lib.Bits.{bit_xor, xor_zero_l}
+use Rattle.reed_solomon.specs.Steps.{xsum}
+use Rattle.reed_solomon.proofs.Sums.{xsum-fold}
 use Rattle.reed_solomon.proofs.filling.sum.Goals as goal
 
-pub loop-v-preserved : goal.loop-v-preserved
-loop-v-preserved c = xsum-more c.loop-v.v-index c.loop-v.sum c.args.vs.now (omega arith) ∙ c.loop-v.invariant
-
 pub returns : goal.returns
-returns c = sym (xsum-end c.loop-v.v-index c.loop-v.sum c.args.vs.now (drop_all c.loop-v.v-index c.args.vs.now (omega arith))) ∙ c.loop-v.invariant
+returns c =
+    let vs = c.args.values.now in
+    let by_call : c.fold.result ≡ fold bit_xor 0 vs = search rules in
+    by_call ∙ xsum-fold 0 vs ∙ xor_zero_l (xsum vs)

@@ -1,7 +1,0 @@
-use Rattle.std.proofs.Common.{◌≡◌, ℕ, ◌+◌, ◌*◌, ◌<◌, ◌≢◌, get_or}
-use Rattle.reed_solomon.proofs.interleaved.scatter.Given as goal
-
-abbrev pub invariant-loop-j : goal.invariant-loop-j
-invariant-loop-j l =
-    ((k : ℕ) → k < l.j → get_or l.memory (l.start + l.stride * k) 0 ≡ get_or l.word k 0)
-    × ((p : ℕ) → ((k : ℕ) → k < l.j → p ≢ l.start + l.stride * k) → get_or l.memory p 0 ≡ get_or l.initial.memory p 0)
