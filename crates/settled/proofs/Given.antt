@@ -1,7 +1,8 @@
 -- What the definitions give in the settled examples.
-use Rattle.std.proofs.Common.{◌≡◌, ℕ, zero, suc, ◌<◌, T, ltb, leb, List, [], ◌∷◌, ◌++◌, length, get_or, replicate, Some, refl, ap, subst, arith, lit≤, ltb→lt}
+use Rattle.std.proofs.Common.{◌≡◌, ℕ, zero, suc, ◌<◌, true, ltb, leb, List, [], ◌∷◌, ◌++◌, length, get_or, replicate, Some, refl, ap, subst, arith, lit≤}
 use Rattle.std.proofs.ByRecursion.{All-from_get_or}
-use Rattle.galois.proofs.Below.{below, at, at-eq}
+use Rattle.std.proofs.lemmas.Bool.{agree_below}
+use Rattle.galois.proofs.Below.{at-eq, at-lt}
 use Rattle.galois.specs.Galois.{xtime, horner, gmul, gpow}
 use Rattle.reed_solomon.specs.Words.{syndrome, Bytes, Places, Off, Checks}
 use Rattle.layout.specs.Counts.{which}
@@ -14,13 +15,13 @@ use Rattle.settled.specs.Examples.{one43}
 checked43 : List ℕ
 checked43 = replicate 43 0 ++ (1 ∷ 3 ∷ 2 ∷ [])
 
-bytes-by : (xs : List ℕ) (n : ℕ) → length xs ≡ n → T (below (λ k. ltb (get_or xs k 0) 256) n) → Bytes xs
+bytes-by : (xs : List ℕ) (n : ℕ) → length xs ≡ n → agree_below (λ k. ltb (get_or xs k 0) 256) (λ _. true) n ≡ true → Bytes xs
 bytes-by xs n e t =
-    All-from_get_or (λ x. x < 256) xs 0 (λ k h. ltb→lt (get_or xs k 0) 256 (at (λ k. ltb (get_or xs k 0) 256) n t k (subst (λ m. k < m) e h)))
+    All-from_get_or (λ x. x < 256) xs 0 (λ k h. at-lt (λ k. get_or xs k 0) (λ _. 256) n t k (subst (λ m. k < m) e h))
 
 c3-one43 : filling 2 c3_checks one43 ≡ Some checked43
-unfolding one43 checked43 c3_checks which below
-c3-one43 = fills 2 c3_checks one43 checked43 (lit≤ tt) (bytes-by one43 46 refl tt) places (lit≤ tt) (bytes-by checked43 46 refl tt) off checks
+unfolding one43 checked43 c3_checks which
+c3-one43 = fills 2 c3_checks one43 checked43 (lit≤ tt) (bytes-by one43 46 refl refl) places (lit≤ tt) (bytes-by checked43 46 refl refl) off checks
   where
     places : Places (length one43) c3_checks
     places = record { within = which-below (λ k. leb 44 k) 46 46 (lit≤ tt); once = which-distinct (λ k. leb 44 k) 46 }
@@ -29,7 +30,7 @@ c3-one43 = fills 2 c3_checks one43 checked43 (lit≤ tt) (bytes-by one43 46 refl
     off =
         record {
           size = refl;
-          same = λ k h a. let l : k < 44 = (let x = a.0 in let y = a.1.0 in omega arith) in at-eq (λ k. get_or one43 k 0) (λ k. get_or checked43 k 0) 44 tt k l;
+          same = λ k h a. let l : k < 44 = (let x = a.0 in let y = a.1.0 in omega arith) in at-eq (λ k. get_or one43 k 0) (λ k. get_or checked43 k 0) 44 refl k l;
         }
 
     checks : Checks 2 checked43

@@ -1,10 +1,11 @@
 -- A pass over memory that fills word after word, where each place is in one word.
-use Rattle.std.proofs.Common.{◌≡◌, ℕ, ◌+◌, ◌*◌, ◌/◌, ◌%◌, ◌<◌, ◌≤◌, Bool, true, false, cond, ◌&&◌, ltb, leb, ◌≢◌, ◌⊎◌, List, length, get_or, Some, MatchBool, sym, refl, ap, ◌∙◌, subst, inl, inr, zero-add, arith, lit≤}
+use Rattle.std.proofs.Common.{◌≡◌, ℕ, ◌+◌, ◌*◌, ◌/◌, ◌%◌, ◌<◌, ◌≤◌, Bool, true, false, cond, ◌&&◌, ltb, leb, ◌≢◌, ◌⊎◌, List, length, get_or, Some, Ok, Err, Result, OnOk, OnErr, sym, refl, ap, ◌∙◌, subst, inl, inr, zero-add, arith, lit≤}
 use native.Mathlib.Decide.{ℕ_discrete}
 use Rattle.std.proofs.lemmas.List.FromFn.{length-map-range_with_len, get_or-map-range_with_len}
 use Rattle.std.proofs.lemmas.List.{ext_get_or}
 use Rattle.std.proofs.ByRecursion.{All-from_get_or}
 use Rattle.std.proofs.lemmas.Bool.{lt-ltb, le-ltb, cases_lt, cond-true, cond-false}
+use Rattle.reed_solomon.specs.declared.fault.Unfillable.{Unfillable}
 use Rattle.reed_solomon.specs.Words.{Bytes, Places, Filled}
 use Rattle.reed_solomon.specs.Interleaves.{interleaved, Refilled, Unfilled}
 use Rattle.reed_solomon.proofs.Distance.{fillable}
@@ -99,9 +100,9 @@ module _ (r : ℕ) (ps : List ℕ) (size many stride n : ℕ) (word pos first st
       let u = fillable ps (interleaved zs (start w) stride n) (omega arith) (bytes-interleaved zs (start w) stride n bz) (subst (λ m. Places m ps) (sym l) places) in
       f.none u.0 u.1 (subst (λ m. Filled m ps (interleaved zs (start w) stride n) u.0) all u.2)
 
-  pub one_more : (a : Bool) → MatchBool a (Refilled r ps zs ys (start w) stride n) (Unfilled r ps zs ys (start w) stride n) → Passed r ps size stride n word pos first xs ys (w + 1)
-  one_more true f = filled-word f
-  one_more false f = absurd (never f)
+  pub one_more : (a : Result (Unit {0}) Unfillable) → OnOk a (Refilled r ps zs ys (start w) stride n) → OnErr a (Unfilled r ps zs ys (start w) stride n) → Passed r ps size stride n word pos first xs ys (w + 1)
+  one_more (Ok _) f e = filled-word f
+  one_more (Err _) f e = absurd (never e)
 
 -- ---- the words of an array
 

@@ -3,7 +3,8 @@ ghost use Rattle.layout.specs.Writing.{laid, array_of};
 ghost use Rattle.writing.specs.Arrays.{array_in, c2_filled, c1_filled};
 
 use crate::places::Places;
-use reed_solomon::interleaved;
+use reed_solomon::codes::{C1, C2};
+use reed_solomon::interleaved::Interleaving;
 
 /// The places of the check bytes in a C2 word, and in a C1 word.
 const C2_CHECKS: [usize; 6] = [18, 17, 16, 15, 14, 13];
@@ -16,7 +17,11 @@ fn put_c2(array: &mut [u8])
     ensures { (p : ℕ) → p < 4096 → slice_index array.new p ≡ c2_filled array.old p }
 {
     for c in 0..128 {
-        let _ = interleaved::fill_interleaved(array, c, 128, 32, &C2_CHECKS, 6);
+        let at = Interleaving {
+            start: c,
+            stride: 128,
+        };
+        let _ = C2.fill_interleaved(array, at, &C2_CHECKS);
     }
 }
 
@@ -26,7 +31,11 @@ fn put_c1(array: &mut [u8])
     ensures { (p : ℕ) → p < 4096 → slice_index array.new p ≡ c1_filled array.old p }
 {
     for w in 0..128 {
-        let _ = interleaved::fill_interleaved(array, 64 * (w / 2) + w % 2, 2, 32, &C1_CHECKS, 4);
+        let at = Interleaving {
+            start: 64 * (w / 2) + w % 2,
+            stride: 2,
+        };
+        let _ = C1.fill_interleaved(array, at, &C1_CHECKS);
     }
 }
 

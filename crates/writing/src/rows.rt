@@ -4,7 +4,8 @@ ghost use Rattle.writing.specs.Rows.{pad_at, data_index, plain_at, c3_filled, Ha
 use layout::address::Address;
 use layout::register::Register;
 use layout::sizes::{ROW, SUB_GROUP, TRACKS};
-use reed_solomon::interleaved;
+use reed_solomon::codes::C3;
+use reed_solomon::interleaved::Interleaving;
 
 /// The places of the check bytes in a C3 word.
 const C3_CHECKS: [usize; 2] = [45, 44];
@@ -83,7 +84,11 @@ fn put_c3(bench: &mut [u8])
     ensures { (p : ℕ) → p < 133952 → slice_index bench.new p ≡ c3_filled bench.old p }
 {
     for w in 0..2878 {
-        let _ = interleaved::fill_interleaved(bench, w + 2, ROW, 46, &C3_CHECKS, 2);
+        let at = Interleaving {
+            start: w + 2,
+            stride: ROW,
+        };
+        let _ = C3.fill_interleaved(bench, at, &C3_CHECKS);
     }
 }
 

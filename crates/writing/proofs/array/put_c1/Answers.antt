@@ -11,7 +11,7 @@ fill_interleaved-requires c =
     record {
       reaches = λ j h. omega (arith, c.loop-w.invariant.0);
       stride_nonzero = lit< tt;
-      n_bound = lit< tt;
+      length_bound = lit< tt;
       places = c1-places;
       lost_len_bound = lit≤ tt;
     }
@@ -23,5 +23,5 @@ loop-w-preserved c =
       c.fill_interleaved.auto.memory ∙ c.loop-w.invariant.0,
       one_more 4 (31 ∷ 30 ∷ 29 ∷ 28 ∷ []) 4096 128 2 32 (λ p. 2 * (p / 64) + p % 2) (λ p. p % 64 / 2) (λ p. 64 * (p / 64) + p % 2) (λ w. 64 * (w / 2) + w % 2) c1-split (lit≤ tt) c1-places refl
           c.args.array.now c.loop-w.array c.fill_interleaved.new.memory c.loop-w.w c.loop-w-test.true (λ j h. omega arith) b c.loop-w.invariant.1
-          c.fill_interleaved.result c.fill_interleaved.ensures,
+          c.fill_interleaved.result c.fill_interleaved.ensures.ok c.fill_interleaved.ensures.err,
     )

@@ -11,7 +11,7 @@ fill_interleaved-requires c =
     record {
       reaches = λ j h. omega (arith, c.loop-c.invariant.0);
       stride_nonzero = lit< tt;
-      n_bound = lit< tt;
+      length_bound = lit< tt;
       places = c2-places;
       lost_len_bound = lit≤ tt;
     }
@@ -23,5 +23,5 @@ loop-c-preserved c =
       c.fill_interleaved.auto.memory ∙ c.loop-c.invariant.0,
       one_more 6 (18 ∷ 17 ∷ 16 ∷ 15 ∷ 14 ∷ 13 ∷ []) 4096 128 128 32 (λ p. p % 128) (λ p. p / 128) (λ p. p % 128) (λ w. w) c2-split (lit≤ tt) c2-places refl
           c.args.array.now c.loop-c.array c.fill_interleaved.new.memory c.loop-c.c c.loop-c-test.true (λ j h. omega arith) b c.loop-c.invariant.1
-          c.fill_interleaved.result c.fill_interleaved.ensures,
+          c.fill_interleaved.result c.fill_interleaved.ensures.ok c.fill_interleaved.ensures.err,
     )

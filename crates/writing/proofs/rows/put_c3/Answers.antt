@@ -1,4 +1,4 @@
-use Rattle.std.proofs.Common.{◌≡◌, ℕ, ◌+◌, ◌/◌, ◌%◌, ◌<◌, get_or, MatchBool, refl, subst, arith, lit<, lit≤, rules}
+use Rattle.std.proofs.Common.{◌≡◌, ℕ, ◌+◌, ◌/◌, ◌%◌, ◌<◌, get_or, OnOk, OnErr, refl, subst, arith, lit<, lit≤, rules}
 use Rattle.reed_solomon.specs.Interleaves.{Refilled, Unfilled}
 use Rattle.layout.specs.Counts.{which}
 use Rattle.layout.specs.Writing.{c3_checks}
@@ -12,7 +12,7 @@ fill_interleaved-requires c =
     record {
       reaches = λ j h. omega (arith, c.loop-w.invariant.0);
       stride_nonzero = lit< tt;
-      n_bound = lit< tt;
+      length_bound = lit< tt;
       places = c3-places;
       lost_len_bound = lit≤ tt;
     }
@@ -31,8 +31,8 @@ loop-w-preserved c =
       one_more 2 c3_checks 133952 2912 2912 46 (λ p. (p % 2912 + 2910) % 2912) (λ p. p / 2912) (λ p. p % 2912) (λ w. (w + 2) % 2912) c3-split (lit≤ tt) c3-places refl
           c.args.bench.now c.loop-w.bench c.fill_interleaved.new.memory w l (λ j h. omega arith) b c.loop-w.invariant.1
           c.fill_interleaved.result
-          (subst (λ s. MatchBool c.fill_interleaved.result (Refilled 2 c3_checks c.loop-w.bench c.fill_interleaved.new.memory s 2912 46) (Unfilled 2 c3_checks c.loop-w.bench c.fill_interleaved.new.memory s 2912 46))
-          e c.fill_interleaved.ensures),
+          (subst (λ s. OnOk c.fill_interleaved.result (Refilled 2 c3_checks c.loop-w.bench c.fill_interleaved.new.memory s 2912 46)) e c.fill_interleaved.ensures.ok)
+          (subst (λ s. OnErr c.fill_interleaved.result (Unfilled 2 c3_checks c.loop-w.bench c.fill_interleaved.new.memory s 2912 46)) e c.fill_interleaved.ensures.err),
     )
 
 pub returns : goal.returns
