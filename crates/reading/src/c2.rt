@@ -9,14 +9,13 @@ use crate::passing::passing;
 use crate::recovery::recover;
 use arrayvec::ArrayVec;
 use losses::sheet::{Cause, LossRow, NO_LOSS};
+use reed_solomon::codes::C2;
+use reed_solomon::interleaved::Interleaving;
 
 /// The bytes of a C2 word.
-const BYTES: usize = 32;
+const BYTES: usize = C2.length;
 
-/// The check bytes among them.
-const CHECKS: usize = 6;
-
-/// How far its bytes lie apart in the array.
+/// How far the bytes of a C2 word lie apart in the array.
 const STRIDE: usize = 128;
 
 /// The lost places of C2 word (m, n), the greatest first.
@@ -35,13 +34,16 @@ fn fill_word(array: &mut [u8], lost: &LostWords, m: usize, n: usize) -> Option<C
     ensures { Corrected lost.now.marks array.old array.new m n (cause_number result) }
 {
     let places = erasures(lost, m, n);
-    if places.len() > CHECKS {
+    if places.len() > C2.check_bytes {
         return Some(Cause::TooManyLost);
     }
-    if recover(array, 32 * m + n, STRIDE, BYTES, places.as_slice(), CHECKS) {
-        None
-    } else {
-        Some(Cause::NoFilling)
+    let at = Interleaving {
+        start: 32 * m + n,
+        stride: STRIDE,
+    };
+    match recover(C2, array, at, places.as_slice()) {
+        Ok(()) => None,
+        Err(_) => Some(Cause::NoFilling),
     }
 }
 

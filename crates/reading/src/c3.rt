@@ -1,4 +1,4 @@
-ghost use Rattle.std.specs.Prelude.{◌≡◌, ◌<◌, ◌≤◌, length};
+ghost use Rattle.std.specs.Prelude.{◌≡◌, ◌<◌, ◌≤◌, length, is_ok};
 ghost use Rattle.layout.specs.Counts.{which};
 ghost use Rattle.reed_solomon.specs.Words.{Places};
 ghost use Rattle.reading.specs.Groups.{gone_in, third_in, Column, Filled};
@@ -9,9 +9,9 @@ use arrayvec::ArrayVec;
 use layout::row::data_number_at;
 use layout::sizes::{ARRAY, ROW, TRACKS};
 use losses::sheet::LossSheet;
-
-/// The check bytes of a C3 word.
-const CHECKS: usize = 2;
+use reed_solomon::codes::C3;
+use reed_solomon::fault::Unfillable;
+use reed_solomon::interleaved::Interleaving;
 
 /// The third lost track, if three are lost.
 pub(crate) fn third_lost(sheet: &LossSheet) -> Option<usize>
@@ -20,7 +20,7 @@ pub(crate) fn third_lost(sheet: &LossSheet) -> Option<usize>
     let mut count = 0usize;
     for t in 0..TRACKS {
         if sheet.is_lost(t) {
-            if count == CHECKS {
+            if count == C3.check_bytes {
                 return Some(t);
             }
             count += 1;
@@ -36,17 +36,20 @@ pub(crate) fn lost_tracks(sheet: &LossSheet) -> ArrayVec<usize, TRACKS>
     passing(|t| sheet.is_lost(t))
 }
 
-/// Fills the C3 word of place `p`, if D bytes stand there; false if it has no filling.
-fn fill_place(rows: &mut [u8], lost: &[usize], p: usize) -> bool
+/// Fills the C3 word of place `p`, if D bytes stand there.
+fn fill_place(rows: &mut [u8], lost: &[usize], p: usize) -> Result<(), Unfillable>
     requires size { length rows.old ≡ 133952 }
     requires places { Places 46 lost.now }
     requires few { length lost.now ≤ 2 }
     requires place { p < 4096 }
-    ensures { Column lost.now rows.old rows.new p result }
+    ensures { Column lost.now rows.old rows.new p (is_ok result) }
 {
     match data_number_at(p) {
-        Some(q) => recover(rows, q, ROW, TRACKS, lost, CHECKS),
-        None => true,
+        Some(start) => {
+            let at = Interleaving { start, stride: ROW };
+            recover(C3, rows, at, lost)
+        },
+        None => Ok(()),
     }
 }
 
@@ -58,7 +61,7 @@ pub(crate) fn fill_words(rows: &mut [u8], lost: &[usize]) -> Option<usize>
     ensures { Filled lost.now rows.old rows.new result }
 {
     for p in 0..ARRAY {
-        if !fill_place(rows, lost, p) {
+        if fill_place(rows, lost, p).is_err() {
             return Some(p);
         }
     }

@@ -1,29 +1,33 @@
-ghost use Rattle.std.specs.Prelude.{◌≡◌, ℕ, ◌-◌, ◌<◌, ◌≤◌, ◌∷◌, length, drop, if◌then◌else◌};
+ghost use Rattle.std.specs.Prelude.{◌≡◌, ◌<◌, ◌≤◌, length, is_ok};
 ghost use Rattle.reed_solomon.specs.Interleaves.{Reaches};
 ghost use Rattle.reed_solomon.specs.Words.{Places};
 ghost use Rattle.reading.specs.Arrays.{Recovered};
 
-use reed_solomon::interleaved::{checks_interleaved, fill_interleaved};
+use reed_solomon::codes::Code;
+use reed_solomon::fault::Unfillable;
+use reed_solomon::interleaved::Interleaving;
 
-/// Fills the lost bytes of a word of `n` bytes that lies interleaved, so that it checks to `r`; with none lost it is only
+/// Fills the lost bytes of a word that lies interleaved, so that it is one of the code; with none lost it is only
 /// checked. The memory is left as it is where there is no filling.
 pub(crate) fn recover(
+    code: Code,
     memory: &mut [u8],
-    start: usize,
-    stride: usize,
-    n: usize,
+    at: Interleaving,
     lost: &[usize],
-    r: usize,
-) -> bool
-    requires reach { Reaches (length memory.old) start stride n }
-    requires stride { 0 < stride }
-    requires n { n < 256 }
-    requires places { Places n lost.now }
-    requires few { length lost.now ≤ r }
-    ensures { Recovered r lost.now memory.old memory.new start stride n result }
+) -> Result<(), Unfillable>
+    requires reach { Reaches (length memory.old) at.start at.stride code.length }
+    requires stride { 0 < at.stride }
+    requires n { code.length < 256 }
+    requires places { Places code.length lost.now }
+    requires few { length lost.now ≤ code.check_bytes }
+    ensures { Recovered code.check_bytes lost.now memory.old memory.new at.start at.stride code.length (is_ok result) }
 {
-    if lost.len() == 0 {
-        return checks_interleaved(memory, start, stride, n, r);
+    if !lost.is_empty() {
+        return code.fill_interleaved(memory, at, lost);
     }
-    fill_interleaved(memory, start, stride, n, lost, r)
+    if code.holds_interleaved(memory, at) {
+        Ok(())
+    } else {
+        Err(Unfillable)
+    }
 }

@@ -13,10 +13,10 @@ loop-k-preserved c =
     let f : ℕ → Bool = λ k. not (checks 4 (interleaved c.args.array.now (64 * (k / 2) + k % 2) 2 32)) in
     let fs = c.loop-k.mark-items in
     let i = c.loop-k.k in
-    let v : Bool = get_or fs i false || not c.checks_interleaved-checks.result in
+    let v : Bool = get_or fs i false || not c.holds_interleaved.result in
     let e : v ≡ (get_or c.args.lost.now.marks i false || f i) =
     ap₂ (λ a b. a || not b) (c.loop-k.invariant.rest i (omega arith))
-    (checks-is 4 (interleaved c.args.array.now (64 * (i / 2) + i % 2) 2 32) c.checks_interleaved-checks.result c.checks_interleaved-checks.ensures) in
+    (checks-is 4 (interleaved c.args.array.now (64 * (i / 2) + i % 2) 2 32) c.holds_interleaved.result c.holds_interleaved.ensures) in
     record {
       size = length-set fs i v ∙ c.loop-k.invariant.size;
       done = λ k h.

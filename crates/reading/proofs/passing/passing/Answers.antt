@@ -10,17 +10,17 @@ loop-i-preserved g c =
     let i = c.loop-i.i in
     elim c.if-test.branch [
       | then-test w ↦ record {
-          few = omega (arith, ap (λ v. length v.items) w.found-is, w.push.ensures.len, c.loop-i.invariant.few);
-          listed = λ p h.
-              ap (λ v. v.items ++ which p (n - (i + 1))) w.found-is ∙ ap (λ z. z ++ which p (n - (i + 1))) w.push.ensures.items
-              ∙ passed p n i c.loop-i.found.items (which p n) c.loop-i-test.true (sym (h (n - 1 - i) c.test.result (omega arith) c.test.ensures) ∙ w.if-test.true) (c.loop-i.invariant.listed p h);
-        }
+        few = omega (arith, ap (λ v. length v.items) w.found-is, w.push.ensures.len, c.loop-i.invariant.few);
+        listed = λ p h.
+            ap (λ v. v.items ++ which p (n - (i + 1))) w.found-is ∙ ap (λ z. z ++ which p (n - (i + 1))) w.push.ensures.items
+            ∙ passed p n i c.loop-i.found.items (which p n) c.loop-i-test.true (sym (h (n - 1 - i) c.test.result (omega arith) c.test.ensures) ∙ w.if-test.true) (c.loop-i.invariant.listed p h);
+      }
       | else-test w ↦ record {
-          few = omega (arith, ap (λ v. length v.items) w.found-is, c.loop-i.invariant.few);
-          listed = λ p h.
-              ap (λ v. v.items ++ which p (n - (i + 1))) w.found-is
-              ∙ failed p n i c.loop-i.found.items (which p n) c.loop-i-test.true (sym (h (n - 1 - i) c.test.result (omega arith) c.test.ensures) ∙ w.if-test.false) (c.loop-i.invariant.listed p h);
-        }
+        few = omega (arith, ap (λ v. length v.items) w.found-is, c.loop-i.invariant.few);
+        listed = λ p h.
+            ap (λ v. v.items ++ which p (n - (i + 1))) w.found-is
+            ∙ failed p n i c.loop-i.found.items (which p n) c.loop-i-test.true (sym (h (n - 1 - i) c.test.result (omega arith) c.test.ensures) ∙ w.if-test.false) (c.loop-i.invariant.listed p h);
+      }
     ]
 
 pub returns : goal.returns
