@@ -1,7 +1,8 @@
-use Rattle.std.proofs.Common.{◌≡◌, ℕ, ◌+◌, ◌<◌, ◌≤◌, List, ◌++◌, map, length, get_or, take, drop, set, Option, sym, refl, ap, ◌∙◌, arith}
+use Rattle.std.proofs.Common.{◌≡◌, ℕ, ◌+◌, ◌<◌, ◌≤◌, Bool, true, false, not, List, ◌++◌, map, length, get_or, take, drop, set, Some, None, Option, sym, refl, ap, ◌∙◌, arith}
 use Rattle.std.proofs.lemmas.List.{append_assoc, append-nil, take_more_set, take_all, map_more, at_drop_more, at_drop_all}
 use Rattle.channel.specs.declared.state.State.{State}
-use Rattle.channel.specs.Listed.{encode_all, state_after}
+use Rattle.std.specs.Option.{unwrap_or, is_some}
+use Rattle.channel.specs.Listed.{encode_all, state_after, or_zero, is_lost}
 
 -- one more byte is encoded
 pub words_more : (f : State → ℕ → ℕ × State) (bs ws all : List ℕ) (s : State) (i : ℕ) (r : ℕ × State) → r ≡ f s (get_or bs i 0) → i < length bs → length ws ≡ length bs
@@ -34,3 +35,14 @@ decoded-more k f ws ys i y o l n h e d =
 pub decoded-all : {Y : Type 0} (k : Option ℕ → Y) (f : ℕ → Option ℕ) (ws : List ℕ) (ys : List Y) (i : ℕ) → length ws ≤ i → length ys ≡ length ws
     → take i ys ≡ map (λ w. k (f w)) (take i ws) → ys ≡ map (λ w. k (f w)) ws
 decoded-all k f ws ys i l n h = sym (take_all i ys (omega arith)) ∙ (h ∙ ap (map (λ w. k (f w))) (take_all i ws l))
+
+-- a byte that may be lost
+pub or_zero-is : (o : Option ℕ) → unwrap_or o 0 ≡ or_zero o
+or_zero-is None = refl
+or_zero-is (Some x) = refl
+
+pub is_lost-is : (o : Option ℕ) (n : Bool) → is_some o ≡ not n → n ≡ is_lost o
+is_lost-is None true e = refl
+is_lost-is None false e = absurd (let no : ◌≡◌ {A = ℕ} 0 1 = cc in omega arith)
+is_lost-is (Some x) true e = absurd (let no : ◌≡◌ {A = ℕ} 0 1 = cc in omega arith)
+is_lost-is (Some x) false e = refl

@@ -1,6 +1,6 @@
-ghost use Rattle.std.specs.Prelude.{◌≡◌, ◌&&◌, length, if◌then◌else◌, Some, None, ◌==◌, nat_eq};
+ghost use Rattle.std.specs.Prelude.{◌≡◌, ◌&&◌, length, is_some, if◌then◌else◌, Some, None, ◌==◌, nat_eq};
 ghost use Rattle.channel.specs.Stand.{SeriesComeBack, SeriesFit, SeriesJoin};
-ghost use Rattle.channel.specs.Listed.{encode_all, state_after, decode_all, lost_of, or_zero, is_lost};
+ghost use Rattle.channel.specs.Listed.{encode_all, state_after, decode_all, lost_of};
 
 use crate::line::LineCode;
 use crate::state::State;
@@ -29,35 +29,26 @@ pub fn encode_all<C: LineCode>(
 }
 
 /// Decodes words into as many bytes, and marks as lost those that give none, with byte 0. Where there are not as many
-/// bytes or marks as words, it answers false and writes nothing.
-pub fn decode_all<C: LineCode>(code: &C, words: &[u16], bytes: &mut [u8], lost: &mut [bool]) -> bool
-    ensures answer { result ≡ (length bytes.old == length words.now && length lost.old == length words.now) }
-    ensures held { bytes.new ≡ (if result then decode_all (C.line code.now).decode words.now else bytes.old) }
-    ensures marked { lost.new ≡ (if result then lost_of (C.line code.now).decode words.now else lost.old) }
+/// bytes or marks as words, it gives none and writes nothing.
+pub fn decode_all<C: LineCode>(
+    code: &C,
+    words: &[u16],
+    bytes: &mut [u8],
+    lost: &mut [bool],
+) -> Option<()>
+    ensures answer { is_some result ≡ (length bytes.old == length words.now && length lost.old == length words.now) }
+    ensures held { bytes.new ≡ (if is_some result then decode_all (C.line code.now).decode words.now else bytes.old) }
+    ensures marked { lost.new ≡ (if is_some result then lost_of (C.line code.now).decode words.now else lost.old) }
 {
-    if bytes.len() != words.len() {
-        return false;
-    }
-    if lost.len() != words.len() {
-        return false;
+    if bytes.len() != words.len() || lost.len() != words.len() {
+        return None;
     }
     for (i, word) in words.iter().enumerate() {
-        let (byte, gone) = byte_or_zero(code.decode(*word));
-        bytes[i] = byte;
-        lost[i] = gone;
+        let byte = code.decode(*word);
+        bytes[i] = byte.unwrap_or(0);
+        lost[i] = byte.is_none();
     }
-    true
-}
-
-/// The byte, or 0 where there is none, and whether there is none.
-fn byte_or_zero(byte: Option<u8>) -> (u8, bool)
-    ensures byte { result.0 ≡ or_zero byte }
-    ensures mark { result.1 ≡ is_lost byte }
-{
-    match byte {
-        Some(b) => (b, false),
-        None => (0, true),
-    }
+    Some(())
 }
 
 /// What holds of every series: encoded and decoded it is the same again with nothing lost, its words are as many as its

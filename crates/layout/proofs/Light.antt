@@ -12,7 +12,8 @@ use Rattle.layout.specs.Words.{Array, c1_block, c1_serial, c1, c2, wide, row, Ch
 use Rattle.channel.specs.Line.{Code, Lawful}
 use Rattle.layout.specs.Line.{Address, Valid, label, content, channel}
 use Rattle.layout.specs.Reading
-use Rattle.layout.specs.Reading.{is_byte, is_lost, or_zero, byte_at, cause_of, read, lost, words_from, order}
+use Rattle.channel.specs.Listed.{or_zero, is_lost}
+use Rattle.layout.specs.Reading.{is_byte, byte_at, cause_of, read, lost, words_from, order}
 use Rattle.layout.specs.Damage.{changed, changed_bytes, changed_frame, touched, Light, LightReads}
 use Rattle.layout.proofs.Counts.{every-from, length-which, which-below, which-distinct, which-else, count_none, count-more, all-counting, length-listed, slice_index-listed, listed_same, all_listed}
 use Rattle.layout.proofs.Placing.{fits}

@@ -5,6 +5,7 @@ use Rattle.reed_solomon.specs.Words.{syndrome, Checks, Bytes, Places, Off}
 use Rattle.layout.specs.Counts.{every, which}
 use Rattle.layout.specs.Words.{Array, c1, c2, c1_block, c1_serial, wide, row, frame_byte}
 use Rattle.channel.specs.Line.{Code}
+use Rattle.channel.specs.Listed.{or_zero, is_lost}
 use Rattle.layout.specs.Line.{Address, label}
 
 -- ---- filling: the bytes at the places ps with which the word checks to r, if there are any
@@ -34,14 +35,6 @@ FillingLaw = (r : ℕ) (ps b u : List ℕ) → length b ≤ 255 → Bytes b → 
 abbrev pub is_byte : ℕ → Option ℕ → Bool
 is_byte x None = false
 is_byte x (Some y) = y == x
-
-abbrev pub is_lost : Option ℕ → Bool
-is_lost None = true
-is_lost (Some y) = false
-
-abbrev pub or_zero : Option ℕ → ℕ
-or_zero None = 0
-or_zero (Some y) = y
 
 abbrev pub byte_at : ℕ → Option (List ℕ) → ℕ
 byte_at j None = 0

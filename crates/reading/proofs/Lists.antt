@@ -9,8 +9,7 @@ use Rattle.reed_solomon.specs.Words.{Places, Distinct}
 use Rattle.layout.specs.Counts.{which}
 use Rattle.channel.specs.Line.{Code}
 use Rattle.layout.specs.Line.{Address, label}
-use Rattle.std.specs.Option.{unwrap_or, is_some}
-use Rattle.layout.specs.Reading.{block_lost, is_byte, or_zero, is_lost}
+use Rattle.layout.specs.Reading.{block_lost, is_byte}
 use Rattle.layout.proofs.Counts.{which-below, which-distinct}
 
 -- a step of a loop that writes f i at each place i
@@ -36,15 +35,3 @@ block-is c t w b l s one two three r o1 o2 o3 el es e1 e2 e3 d1 d2 d3 er =
     ap not
     (er
     ∙ ap₂ ◌&&◌ (ap₂ ◌&&◌ (ap₂ ◌&&◌ es (d1 ∙ ap₂ is_byte el e1)) (d2 ∙ ap (is_byte b) e2)) (d3 ∙ ap₂ (λ l o. is_byte (bit_xor l b) o) el e3))
-
--- ---- a byte that may be lost
-
-pub or_zero-is : (o : Option ℕ) → unwrap_or o 0 ≡ or_zero o
-or_zero-is None = refl
-or_zero-is (Some x) = refl
-
-pub is_lost-is : (o : Option ℕ) (n : Bool) → is_some o ≡ not n → n ≡ is_lost o
-is_lost-is None true e = refl
-is_lost-is None false e = absurd (let no : ◌≡◌ {A = ℕ} 0 1 = cc in omega arith)
-is_lost-is (Some x) true e = absurd (let no : ◌≡◌ {A = ℕ} 0 1 = cc in omega arith)
-is_lost-is (Some x) false e = refl

@@ -7,7 +7,8 @@ use Rattle.layout.specs.Counts.{every, listed}
 use Rattle.layout.specs.Words.{c1, c1_block, c1_serial}
 use Rattle.channel.specs.Line.{Code}
 use Rattle.layout.specs.Line.{Address}
-use Rattle.layout.specs.Reading.{block_lost, byte_lost, value, c1_read, checks, is_lost, or_zero}
+use Rattle.channel.specs.Listed.{or_zero, is_lost}
+use Rattle.layout.specs.Reading.{block_lost, byte_lost, value, c1_read, checks}
 use Rattle.layout.proofs.Counts.{every-at, every-from, listed_same}
 use Rattle.reading.specs.Arrays.{c1_number, lost_in, Taken}
 use Rattle.reading.proofs.Lists.{fill_step}

@@ -1,6 +1,6 @@
 ghost use Rattle.std.specs.Prelude.{◌≡◌, ℕ, ◌+◌, ◌*◌, ◌<◌, ◌&&◌, ◌||◌, length, ◌==◌};
 ghost use Rattle.layout.specs.Group.{address};
-ghost use Rattle.layout.specs.Reading.{is_byte, is_lost, or_zero, block_lost};
+ghost use Rattle.layout.specs.Reading.{is_byte, block_lost};
 ghost use Rattle.reading.specs.Arrays.{at, Taken};
 
 use crate::lost_words::LostWords;

@@ -5,6 +5,8 @@ ghost use Rattle.channel.specs.Stand.{GoodSheetsServe, DecodesNoMore, SharedWord
 ghost use Rattle.channel.specs.Served.{ServesAs};
 
 use crate::fault::SheetFault;
+use crate::line::LineCode;
+use crate::plain::Plain;
 use crate::sheet::{CheckedSheet, NUMBERS, RawSheet, WORDS};
 
 /// The largest number of a good sheet: word 1,023 and next state 1.
@@ -48,8 +50,8 @@ fn plain_numbers() -> [u16; NUMBERS]
     ensures { (length result ≡ 512) × ((i : ℕ) → i < 512 → slice_index result i ≡ i / 2 + 1024) }
 {
     let mut numbers = [0u16; NUMBERS];
-    for i in 0..NUMBERS {
-        numbers[i] = (i / 2 + 1024) as u16;
+    for (i, number) in numbers.iter_mut().enumerate() {
+        *number = (i / 2 + 1024) as u16;
     }
     numbers
 }
@@ -59,8 +61,8 @@ fn plain_bytes() -> [Option<u8>; WORDS]
     ensures { (w : ℕ) → w < 1024 → slice_index_or result w None ≡ plain_decode w }
 {
     let mut bytes = [None; WORDS];
-    for word in 0..256 {
-        bytes[word] = Some(word as u8);
+    for (word, byte) in bytes.iter_mut().enumerate() {
+        *byte = Plain.decode(word as u16);
     }
     bytes
 }
@@ -84,10 +86,7 @@ fn narrowed(numbers: &[u32]) -> Option<[u16; NUMBERS]>
 fn is_free(entry: Option<u8>, byte: u8) -> bool
     ensures { result ≡ free entry byte }
 {
-    match entry {
-        Some(other) => other == byte,
-        None => true,
-    }
+    entry.is_none_or(|other| other == byte)
 }
 
 /// The table from words to bytes, or none where one word stands under two bytes.

@@ -2,7 +2,7 @@ use Rattle.std.proofs.Common.{length, sym, ◌∙◌}
 use Rattle.std.proofs.lemmas.List.{length-set}
 use Rattle.std.proofs.lemmas.Bool.{eq-eqb, and_from}
 use Rattle.channel.specs.Listed.{or_zero, is_lost}
-use Rattle.channel.proofs.Turns.{decoded-more, decoded-all}
+use Rattle.channel.proofs.Turns.{decoded-more, decoded-all, or_zero-is, is_lost-is}
 use Rattle.channel.proofs.series.decode_all.Goals as goal
 
 pub loop-i-preserved : goal.loop-i-preserved
@@ -10,13 +10,12 @@ loop-i-preserved g c =
     let k = (g.C.LineCode.line c.args.code.now).decode in
     let ws = c.args.words.now in
     let i = c.loop-i.i in
-    let e = c.byte_or_zero-byte.ensures in
-    let d = c.decode.ensures in
+    let d = c.decode-byte.ensures in
     let l = c.loop-i-test.true in (
       length-set _ _ _ ∙ c.loop-i.invariant.0,
       length-set _ _ _ ∙ c.loop-i.invariant.1,
-      decoded-more or_zero k ws c.loop-i.bytes i _ _ l c.loop-i.invariant.0 c.loop-i.invariant.2 e.byte d,
-      decoded-more is_lost k ws c.loop-i.lost i _ _ l c.loop-i.invariant.1 c.loop-i.invariant.3 e.mark d,
+      decoded-more or_zero k ws c.loop-i.bytes i _ _ l c.loop-i.invariant.0 c.loop-i.invariant.2 (c.unwrap_or.ensures ∙ or_zero-is c.decode-byte.result) d,
+      decoded-more is_lost k ws c.loop-i.lost i _ _ l c.loop-i.invariant.1 c.loop-i.invariant.3 (is_lost-is c.decode-byte.result c.is_none.result c.is_none.ensures) d,
     )
 
 pub returns : goal.returns

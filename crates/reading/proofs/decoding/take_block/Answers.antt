@@ -2,7 +2,7 @@ use Rattle.std.proofs.Common.{◌≡◌, ◌+◌, ◌-◌, ◌*◌, ◌/◌, ◌
 use Rattle.std.proofs.lemmas.List.{get_or-take, get_or-drop}
 use Rattle.layout.specs.Group.{address}
 use Rattle.reading.specs.Arrays.{at, Taken}
-use Rattle.reading.proofs.Lists.{or_zero-is, is_lost-is}
+use Rattle.channel.proofs.Turns.{or_zero-is, is_lost-is}
 use Rattle.reading.proofs.Marks.{taken_more}
 use Rattle.reading.proofs.decoding.take_block.Goals as goal
 

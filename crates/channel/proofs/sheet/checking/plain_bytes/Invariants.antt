@@ -1,6 +1,6 @@
-use Rattle.std.proofs.Common.{◌≡◌, ℕ, ◌<◌, cond, ltb, length, get_or, Some, None}
+use Rattle.std.proofs.Common.{◌≡◌, ℕ, ◌<◌, length, get_or, None}
+use Rattle.channel.specs.Codes.{plain_decode}
 use Rattle.channel.proofs.sheet.checking.plain_bytes.Given as goal
 
 abbrev pub invariant-loop-word : goal.invariant-loop-word
-invariant-loop-word l =
-    (length l.bytes ≡ 1024) × ((w : ℕ) → w < 1024 → get_or l.bytes w None ≡ cond (ltb w l.word) (Some w) None)
+invariant-loop-word l = (length l.byte-items ≡ 1024) × ((w : ℕ) → w < l.word → get_or l.byte-items w None ≡ plain_decode w)

@@ -2,4 +2,4 @@ use Rattle.std.proofs.Common.{◌≡◌, ℕ, ◌+◌, ◌/◌, ◌<◌, length,
 use Rattle.channel.proofs.sheet.checking.plain_numbers.Given as goal
 
 abbrev pub invariant-loop-i : goal.invariant-loop-i
-invariant-loop-i l = (length l.numbers ≡ 512) × ((k : ℕ) → k < l.i → get_or l.numbers k 0 ≡ k / 2 + 1024)
+invariant-loop-i l = (length l.number-items ≡ 512) × ((k : ℕ) → k < l.i → get_or l.number-items k 0 ≡ k / 2 + 1024)
