@@ -1,5 +1,6 @@
 -- Laws of lists that are cut into parts of one size.
-use Rattle.std.proofs.Common.{◌≡◌, ℕ, suc, ◌+◌, ◌*◌, ◌/◌, ◌<◌, ◌≤◌, ◌⊎◌, List, [], ◌∷◌, ◌++◌, length, get_or, take, drop, set, sym, ap, ◌∙◌, inl, inr, ⊎_elim, mul-le-mul_right, suc-mul, div-mul-le_self, arith, rules}
+use Rattle.std.proofs.Common.{◌≡◌, ℕ, zero, suc, ◌+◌, ◌*◌, ◌/◌, ◌<◌, ◌≤◌, ◌⊎◌, List, [], ◌∷◌, ◌++◌, length, get_or, take, drop, set, sym, ap, ◌∙◌, inl, inr, ⊎_elim, mul-le-mul_right, suc-mul, div-mul-le_self, arith, rules}
+use Rattle.std.proofs.Math.Nat.{div-zero}
 use borrow.Rule.Slice.PartMut.{put_mid}
 use lib.Seq.{paste}
 use Rattle.std.proofs.lemmas.List.{length-take, length-take-le, length-drop, ext_get_or, places, append_assoc, drop_at, drop-drop, drop-set-lt, drop_more, take_at, take_all, take_more_set}
@@ -13,11 +14,12 @@ room s n k h =
     let le : suc k ≤ n / s = omega arith in
     omega (arith, mul-le-mul_right s le, suc-mul k s, div-mul-le_self n s)
 
--- and so does its first item, of `size` bytes each
-pub room-bytes : (size s n k : ℕ) → 0 < s → k < n / s → (k * s + 1) * size ≤ n * size
-room-bytes size s n k some h =
-    let r : k * s + s ≤ n = room s n k h in
-    let l : k * s + 1 ≤ n = omega arith in
+-- and so does its first item, of `size` bytes each, where there are t whole parts
+pub room-bytes : (size s n t k : ℕ) → t ≡ n / s → k < t → (k * s + 1) * size ≤ n * size
+room-bytes size zero n t k e h = absurd (let no : ⊥ = omega (arith, div-zero n) in no)
+room-bytes size (suc s) n t k e h =
+    let r : k * suc s + suc s ≤ n = room (suc s) n k (omega arith) in
+    let l : k * suc s + 1 ≤ n = omega arith in
     mul-le-mul_right size l
 
 -- two different parts do not meet

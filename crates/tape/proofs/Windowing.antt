@@ -2,7 +2,7 @@
 use Rattle.std.proofs.Common.{◌≡◌, ℕ, ◌+◌, ◌-◌, ◌<◌, min, List, ◌++◌, length, get_or, take, drop, set, None, sym, ap, ◌∙◌, arith}
 use Rattle.std.proofs.Math.Seq.{take-set-lt}
 use Rattle.std.proofs.lemmas.List.{length-take, length-drop, get_or-take, get_or-drop, drop-drop, drop-set-add, take-append-drop}
-use Rattle.std.proofs.lemmas.Bool.{lt-ltb}
+use Rattle.std.proofs.lemmas.Bool.Decides.{nat_tests}
 use Rattle.tape.specs.Tape.{Answer, Track, Sound, outcome, storing, blanking}
 use Rattle.tape.specs.Windows.{window_tracks}
 use Rattle.tape.proofs.Answering.{outcome-ap}
@@ -34,10 +34,10 @@ module _ (f c k : ℕ) (ts : List Track) (h : k < length (window_tracks f c ts))
   below = let l : k < min c (length ts - f) = rw (window-length f c ts) at h in (omega arith, omega arith)
 
   pub storing-in : (b : List ℕ) → storing (length ts) (f + k) b ≡ storing (length (window_tracks f c ts)) k b
-  storing-in b = simp (lt-ltb (f + k) (length ts) below.1, lt-ltb k (length (window_tracks f c ts)) h)
+  storing-in b = grind (arith, nat_tests, below.1)
 
   pub blanking-in : blanking (length ts) (f + k) ≡ blanking (length (window_tracks f c ts)) k
-  blanking-in = simp (lt-ltb (f + k) (length ts) below.1, lt-ltb k (length (window_tracks f c ts)) h)
+  blanking-in = grind (arith, nat_tests, below.1)
 
   -- a change of the track below is one of the track in the window
   pub changed-in : (r : Answer) (v : Track) → window_tracks f c (outcome r (set ts (f + k) v) ts) ≡ outcome r (set (window_tracks f c ts) k v) (window_tracks f c ts)

@@ -1,11 +1,8 @@
-use Rattle.std.proofs.Common.{◌/◌, ◌<◌, length, arith}
+use Rattle.std.proofs.Common.{arith}
 use prog.Memory.{size}
 use denote.Param.{layout}
 use Rattle.images.proofs.Cutting.{room-bytes}
 use Rattle.images.proofs.image.blank.Goals as goal
 
 pub offset_bounds-memory-track : goal.offset_bounds-memory-track
-offset_bounds-memory-track g c =
-    let law = g.met.N.Number in
-    let k : c.args.track < length c.args.memory.now / g.N.Number.STRIDE = rw c.tracks.ensures.whole at c.in_ok-within.ensures.within in
-    rw c.STRIDE.ensures (omega (arith, room-bytes (size (layout g.row.N)) g.N.Number.STRIDE (length c.args.memory.now) c.args.track (rw law.stride law.lawful.some) k))
+offset_bounds-memory-track g c = rw c.STRIDE.ensures (omega (arith, room-bytes (size (layout g.row.N)) _ _ _ _ c.tracks.ensures.whole c.in_ok-within.ensures.within))
