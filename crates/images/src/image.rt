@@ -60,7 +60,8 @@ fn blank<N: Number>(memory: &mut [N], track: usize) -> Result<(), TapeFault>
     ensures memory { memory.new ≡ image_blanked N.format memory.old track }
 {
     within(tracks(memory), track)?;
-    memory[track * N::STRIDE] = N::BLANK;
+    let start = track * N::STRIDE;
+    memory[start] = N::BLANK;
     Ok(())
 }
 

@@ -78,6 +78,7 @@ impl Number for u8 {
 
     /// The words of each quad from its five bytes.
     fn read(bytes: &[u8], words: &mut [u16]) {
+        // The words by index: what is written through `chunks_exact_mut` or `as_chunks_mut` is not known after the loop.
         for (q, five) in bytes.as_chunks::<5>().0.iter().enumerate() {
             words[q * 4..q * 4 + 4].copy_from_slice(&split_words(join_bytes(five)));
         }
@@ -85,6 +86,7 @@ impl Number for u8 {
 
     /// The five bytes of each quad from its words.
     fn write(words: &[u16], bytes: &mut [u8]) {
+        // The bytes by index, for the same reason.
         for (q, four) in words.as_chunks::<4>().0.iter().enumerate() {
             bytes[q * 5..q * 5 + 5].copy_from_slice(&split_bytes(join_words(four)));
         }
