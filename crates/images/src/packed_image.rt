@@ -31,12 +31,13 @@ fn join_words(words: &[u16; 4]) -> u64
     ((a * 1024 + b) * 1024 + c) * 1024 + d
 }
 
-/// A number of forty bits as five bytes.
-fn split_bytes(forty: u64) -> [u8; 5]
-    ensures { result ≡ five_bytes forty }
+/// Writes a number of forty bits as five bytes.
+fn split_bytes(forty: u64, bytes: &mut [u8])
+    requires { length bytes.old ≡ 5 }
+    ensures { bytes.new ≡ five_bytes forty }
 {
-    let [_, _, _, a, b, c, d, e] = forty.to_be_bytes();
-    [a, b, c, d, e]
+    // Not an array as the result: made byte by byte and then copied, it costs a store a tenth of its speed.
+    bytes.copy_from_slice(&forty.to_be_bytes()[3..]);
 }
 
 /// A number of forty bits as four words.
@@ -88,7 +89,7 @@ impl Number for u8 {
     fn write(words: &[u16], bytes: &mut [u8]) {
         // The bytes by index, for the same reason.
         for (q, four) in words.as_chunks::<4>().0.iter().enumerate() {
-            bytes[q * 5..q * 5 + 5].copy_from_slice(&split_bytes(join_words(four)));
+            split_bytes(join_words(four), &mut bytes[q * 5..q * 5 + 5]);
         }
     }
 }

@@ -14,8 +14,8 @@ loop-q-preserved c =
     let n = c.as_chunks.ensures in
     let l : q < length xs / 4 = rw n.front_len at c.loop-q-test.true in
     let item : get_or c.as_chunks.result.0.now q [] ≡ part 4 xs q = rw n.front (get_or-first_chunks 4 (length xs / 4) xs q l) in
-    let made = c.copy_from_slice.ensures.after ∙ (c.split_bytes.ensures ∙ ap five_bytes (c.join_words.ensures ∙ ap from_words item)) in
-    chain_more 5 (packed_at xs) (five-long xs) c.args.bytes.now c.loop-q.bytes c.copy_from_slice.new.self q (q * 5 + 5 - q * 5) c.loop-q.invariant made (omega arith)
+    let made = c.split_bytes.ensures ∙ ap five_bytes (c.join_words.ensures ∙ ap from_words item) in
+    chain_more 5 (packed_at xs) (five-long xs) c.args.bytes.now c.loop-q.bytes c.split_bytes.new.bytes q (q * 5 + 5 - q * 5) c.loop-q.invariant made (omega arith)
 
 pub returns : goal.returns
 returns c =
