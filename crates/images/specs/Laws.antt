@@ -1,12 +1,14 @@
 -- That the formats of the word image and of the packed image are lawful, which the impls of `Number` cite.
-use Rattle.std.proofs.Common.{◌≡◌, ℕ, zero, suc, ◌+◌, ◌-◌, ◌*◌, ◌<◌, ◌≤◌, List, [], ◌++◌, length, get_or, take, drop, sym, refl, ap, ◌∙◌, ⊎_elim, mul-le-mul_right, suc-mul, zero-mul, arith, true, ltb, map, lit<, ◌/◌, ◌%◌, ◌^◌, ◌∷◌, mod-eq_of_lt, div-add-mod'}
+use Rattle.std.proofs.Common.{◌≡◌, ℕ, zero, suc, ◌+◌, ◌-◌, ◌*◌, ◌<◌, ◌≤◌, List, [], ◌++◌, length, get_or, take, drop, sym, refl, ap, ◌∙◌, ⊎_elim, mul-le-mul_right, suc-mul, zero-mul, arith, true, map, lit<, ◌/◌, ◌%◌, ◌^◌, ◌∷◌, mod-eq_of_lt, div-add-mod'}
 use Rattle.std.proofs.lemmas.List.{length-append, drop_at, take_all, drop-take, take-take, take-append-drop, drop-append-le, take-append-le, get_or_append_left, get_or-append_right, length-drop, length-map, get_or-map, ext_get_or, length-take, get_or-take, get_or-drop}
-use Rattle.std.proofs.lemmas.Bool.{cases_lt, cond-true, cond_both, lt-ltb, ltb-true}
+use Rattle.std.proofs.lemmas.Bool.{cases_lt}
+use Rattle.std.proofs.lemmas.Bool.Decides.{nat_tests}
 use Rattle.images.specs.Images.{part, chain, Lawful, capped, word_format, from_bytes, from_words, five_bytes, four_words, packed, unpacked, packed_at, unpacked_at, packed_format}
 use Rattle.tape.specs.Tape.{narrow}
 use Rattle.tape.proofs.Answering.{narrow-get}
 use native.Mathlib.Nat.{div-div-eq-div-mul}
 
+-- a part of a list: how long it is, and its items
 module _ {X : Type 0} (s : ℕ) where
   pub length_part : (xs : List X) (k : ℕ) → k * s + s ≤ length xs → length (part s xs k) ≡ s
   length_part xs k h = simp (length-take, length-drop) (omega arith)
@@ -14,6 +16,7 @@ module _ {X : Type 0} (s : ℕ) where
   pub get_or_part : (xs : List X) (k j : ℕ) (d : X) → j < s → get_or (part s xs k) j d ≡ get_or xs (k * s + j) d
   get_or_part xs k j d h = get_or-take s (drop (k * s) xs) j d h ∙ get_or-drop (k * s) xs j d
 
+-- chains
 pub chain-none : (f : ℕ → List ℕ) → chain f 0 ≡ []
 unfolding chain
 chain-none f = refl
@@ -161,7 +164,7 @@ packed_laws = record {
 }
 
 capped-lt : (w : ℕ) → capped w < 1024
-capped-lt w = cond_both (ltb w 1024) w 0 (λ x. x < 1024) (λ e. ltb-true w 1024 e) (λ e. lit< tt)
+capped-lt w = grind (arith, nat_tests)
 
 -- words that are narrow count as they are
 capped-narrow : (ws : List ℕ) → narrow ws ≡ true → map capped ws ≡ ws
@@ -169,7 +172,8 @@ capped-narrow ws h =
     ext_get_or 0 (map capped ws) ws (length-map ws capped)
     (λ j l.
     let jl : j < length ws = omega (arith, length-map ws capped) in
-    get_or-map capped ws j 0 0 jl ∙ cond-true (ltb (get_or ws j 0) 1024) (get_or ws j 0) 0 (lt-ltb (get_or ws j 0) 1024 (narrow-get ws j h jl)))
+    let n : get_or ws j 0 < 1024 = narrow-get ws j h jl in
+    get_or-map capped ws j 0 0 jl ∙ grind (arith, nat_tests))
 
 -- and the word image
 pub word_laws : Lawful word_format
