@@ -1,106 +1,132 @@
--- Laws of images in memory, over the number of numbers a track and what they mean.
-use Rattle.std.proofs.Common.{◌≡◌, ℕ, ◌+◌, ◌*◌, ◌/◌, ◌<◌, ◌≤◌, true, false, cond, eqb, ◌⊎◌, List, ◌∷◌, length, get_or, drop, set, Some, None, Ok, Err, sym, ap, ◌∙◌, inl, inr, ⊎_elim, add-zero, zero-add, arith}
+-- Laws of images in memory, over the format of a track.
+use Rattle.std.proofs.Common.{◌≡◌, ℕ, ◌+◌, ◌-◌, ◌*◌, ◌/◌, ◌<◌, ◌≤◌, true, false, not, cond, ◌⊎◌, List, ◌∷◌, length, get_or, take, drop, set, Some, None, Ok, Err, sym, refl, ap, ◌∙◌, inl, inr, ⊎_elim, zero-add, arith}
 use lib.Seq.{paste}
 use Rattle.std.proofs.lemmas.List.FromFn.{length-map-range_with_len, get_or-map-range_with_len}
-use Rattle.std.proofs.lemmas.List.{length-set, get_or-set_same, get_or-set_other, ext_get_or}
-use Rattle.std.proofs.lemmas.Bool.{cases_eq, ne_eqb}
-use Rattle.tape.specs.declared.fault.TapeFault.{TapeFault}
+use Rattle.std.proofs.lemmas.List.{length-take, length-drop, length-set, get_or-set_same, get_or-set_other, ext_get_or}
+use Rattle.std.proofs.lemmas.Bool.{cases_eq, not-true, not-false}
 use Rattle.tape.specs.declared.fault.TapeFault.TheVariants.{Blank}
 use Rattle.tape.specs.Tape.{Sound, SoundTrack, reached, fetched, delivered, storing, stored, blanking, blanked}
-use Rattle.images.specs.Images.{part, track_of, image_tracks, image_stored, image_blanked}
+use Rattle.images.specs.Images.{Format, Lawful, part, track_of, image_tracks, image_stored, image_blanked}
 use Rattle.tape.proofs.Answering.{outcome-ap, outcome-same, storing-ok, blanking-ok}
-use Rattle.images.proofs.Cutting.{room, apart, length_part, get_d_part, part_same, paste-length, paste-below, paste-above, part-paste}
+use Rattle.images.proofs.Cutting.{room, apart, part_same, part-first, paste-length, paste-below, paste-above, part-paste}
 
-module _ (s : ℕ) (pos : 0 < s) (w : List ℕ → List ℕ) where
-  pub length-image : (m : List ℕ) → length (image_tracks s w m) ≡ length m / s
+module _ {N : Type 0} (f : Format N) where
+  pub length-image : (m : List N) → length (image_tracks f m) ≡ length m / f.stride
   unfolding image_tracks
-  length-image m = length-map-range_with_len (λ (k : ℕ). track_of w (part s m k)) 0 (length m / s)
+  length-image m = length-map-range_with_len (λ (k : ℕ). track_of f (part f.stride m k)) 0 (length m / f.stride)
 
-  pub get-image : (m : List ℕ) (k : ℕ) → k < length m / s → get_or (image_tracks s w m) k None ≡ track_of w (part s m k)
+  pub get-image : (m : List N) (k : ℕ) → k < length m / f.stride → get_or (image_tracks f m) k None ≡ track_of f (part f.stride m k)
   unfolding image_tracks
-  get-image m k h = get_or-map-range_with_len (λ (k : ℕ). track_of w (part s m k)) 0 (length m / s) k k None h (zero-add k)
+  get-image m k h = get_or-map-range_with_len (λ (k : ℕ). track_of f (part f.stride m k)) 0 (length m / f.stride) k k None h (zero-add k)
 
   -- where no number outside track k changed, no other track did
-  pub image-set : (m m' : List ℕ) (k : ℕ) → length m' ≡ length m → k < length m / s
-      → ((p : ℕ) → (p < k * s) ⊎ (k * s + s ≤ p) → get_or m' p 0 ≡ get_or m p 0)
-      → image_tracks s w m' ≡ set (image_tracks s w m) k (track_of w (part s m' k))
+  image-set : (m m' : List N) (k : ℕ) → length m' ≡ length m → k < length m / f.stride
+      → ((p : ℕ) → (p < k * f.stride) ⊎ (k * f.stride + f.stride ≤ p) → get_or m' p f.blank ≡ get_or m p f.blank)
+      → image_tracks f m' ≡ set (image_tracks f m) k (track_of f (part f.stride m' k))
   image-set m m' k e l h =
-      let t = track_of w (part s m' k) in
-      let n' : length (image_tracks s w m') ≡ length m / s = length-image m' ∙ ap (λ (x : ℕ). x / s) e in
-      let n : length (set (image_tracks s w m) k t) ≡ length m / s = length-set (image_tracks s w m) k t ∙ length-image m in
-      ext_get_or None (image_tracks s w m') (set (image_tracks s w m) k t) (n' ∙ sym n)
+      let s = f.stride in
+      let t = track_of f (part s m' k) in
+      let n' : length (image_tracks f m') ≡ length m / s = length-image m' ∙ ap (λ (x : ℕ). x / s) e in
+      let n : length (set (image_tracks f m) k t) ≡ length m / s = length-set (image_tracks f m) k t ∙ length-image m in
+      ext_get_or None (image_tracks f m') (set (image_tracks f m) k t) (n' ∙ sym n)
       (λ i il.
       let i1 : i < length m / s = omega arith in
       let i2 : i < length m' / s = rw e i1 in
-      let kl : k < length (image_tracks s w m) = omega (arith, length-image m) in
+      let kl : k < length (image_tracks f m) = omega (arith, length-image m) in
       get-image m' i i2 ∙ ⊎_elim
-      (λ (q : i ≡ k). rw q (sym (get_or-set_same (image_tracks s w m) k t None kl)))
+      (λ (q : i ≡ k). rw q (sym (get_or-set_same (image_tracks f m) k t None kl)))
       (λ (q : i ≡ k → ⊥).
-      ap (track_of w) (part_same s m m' i e (λ j jl. h (i * s + j) (⊎_elim (λ (b : i * s + s ≤ k * s). inl (omega arith)) (λ (b : k * s + s ≤ i * s). inr (omega arith)) (apart s i k q))))
-      ∙ sym (get_or-set_other (image_tracks s w m) k i t None q ∙ get-image m i i1))
+      ap (track_of f) (part_same s f.blank m m' i e (λ j jl. h (i * s + j) (⊎_elim (λ (b : i * s + s ≤ k * s). inl (omega arith)) (λ (b : k * s + s ≤ i * s). inr (omega arith)) (apart s i k q))))
+      ∙ sym (get_or-set_other (image_tracks f m) k i t None q ∙ get-image m i i1))
       (cases_eq i k))
 
+-- a track, by what is read at the place of its flag and behind it
+track-at : {N : Type 0} (f : Format N) (m : List N) (k at n : ℕ) (flag : N) → k < length m / f.stride → at ≡ k * f.stride → n + 1 ≡ f.stride
+    → get_or m at flag ≡ flag → track_of f (part f.stride m k) ≡ cond (f.marks flag) (Some (f.words (take n (drop (at + 1) m)))) None
+track-at {N} f m k at n flag l a e h =
+    let s = f.stride in
+    ap (track_of f) (part-first s m k n flag e (room s (length m) k l))
+    ∙ (ap (λ (p : ℕ). cond (f.marks (get_or m p flag)) (Some (f.words (take n (drop (p + 1) m)))) None) (sym a)
+    ∙ ap (λ (x : N). cond (f.marks x) (Some (f.words (take n (drop (at + 1) m)))) None) h)
+
+module _ {N : Type 0} (f : Format N) (law : Lawful f) where
+  -- an image's tape is sound
+  pub image-sound : (m : List N) → Sound (image_tracks f m)
+  image-sound m k l =
+      let s = f.stride in
+      let some = law.some in
+      let l' : k < length m / s = omega (arith, length-image f m) in
+      let r : k * s + s ≤ length m = room s (length m) k l' in
+      let others = take (s - 1) (drop (k * s + 1) m) in
+      let n : length others + 1 ≡ s = simp (length-take, length-drop) (omega arith) in
+      rw (get-image f m k l', part-first s m k (s - 1) f.blank (omega arith) r)
+      (elim (f.marks (get_or m (k * s) f.blank)) as (λ b. SoundTrack (cond b (Some (f.words others)) None)) [ true ↦ law.sound others n | false ↦ tt ])
+
   -- a blank of an image is a blank of its tape
-  pub image-blanked : (m : List ℕ) (k : ℕ) → image_tracks s w (image_blanked s m k) ≡ blanked (image_tracks s w m) k
+  pub image-blanked : (m : List N) (k : ℕ) → image_tracks f (image_blanked f m k) ≡ blanked (image_tracks f m) k
   image-blanked m k =
-      let n = length-image m in
+      let s = f.stride in
+      let n = length-image f m in
       let r = blanking (length m / s) k in
-      outcome-ap (image_tracks s w) r (set m (k * s) 0) m ∙ (outcome-same r (image_tracks s w (set m (k * s) 0)) (set (image_tracks s w m) k None) (image_tracks s w m) (λ ok. done (blanking-ok (length m / s) k ok)) ∙ rw n)
+      let m' = set m (k * s) f.blank in
+      outcome-ap (image_tracks f) r m' m ∙ (outcome-same r (image_tracks f m') (set (image_tracks f m) k None) (image_tracks f m) (λ ok. done (blanking-ok (length m / s) k ok)) ∙ rw n)
     where
-      done : k < length m / s → image_tracks s w (set m (k * s) 0) ≡ set (image_tracks s w m) k None
+      done : k < length m / f.stride → image_tracks f (set m (k * f.stride) f.blank) ≡ set (image_tracks f m) k None
       done l =
-          let f : k * s + s ≤ length m = room s (length m) k l in
+          let s = f.stride in
+          let some = law.some in
+          let m' = set m (k * s) f.blank in
+          let e : length m' ≡ length m = length-set m (k * s) f.blank in
+          let fits : k * s + s ≤ length m = room s (length m) k l in
           let i : k * s < length m = omega arith in
-          let z : get_or (part s (set m (k * s) 0) k) 0 0 ≡ 0 = get_d_part s (set m (k * s) 0) k 0 pos ∙ (rw (add-zero (k * s)) (get_or-set_same m (k * s) 0 0 i)) in
-          image-set m (set m (k * s) 0) k (length-set m (k * s) 0) l (λ p o. get_or-set_other m (k * s) p 0 0 (λ q. ⊎_elim (λ (b : p < k * s). omega arith) (λ (b : k * s + s ≤ p). omega arith) o))
-          ∙ ap (set (image_tracks s w m) k) (rw z)
+          let t : track_of f (part s m' k) ≡ None = track-at f m' k (k * s) (s - 1) f.blank (rw e l) refl (omega arith) (get_or-set_same m (k * s) f.blank f.blank i) ∙ rw law.blank in
+          image-set f m m' k e l (λ p o. get_or-set_other m (k * s) p f.blank f.blank (λ q. ⊎_elim (λ (b : p < k * s). omega arith) (λ (b : k * s + s ≤ p). omega arith) o))
+          ∙ ap (set (image_tracks f m) k) t
 
   -- a store in an image is a store on its tape
-  pub image-stored : (form : List ℕ → List ℕ) (m : List ℕ) (k : ℕ) (buf : List ℕ)
-      → (storing (length m / s) k buf ≡ Ok tt → (length (1 ∷ form buf) ≡ s) × (w (form buf) ≡ buf))
-      → image_tracks s w (image_stored s form m k buf) ≡ stored (image_tracks s w m) k buf
-  image-stored form m k buf h =
-      let n = length-image m in
+  pub image-stored : (m : List N) (k : ℕ) (buf : List ℕ) → image_tracks f (image_stored f m k buf) ≡ stored (image_tracks f m) k buf
+  image-stored m k buf =
+      let s = f.stride in
+      let n = length-image f m in
       let r = storing (length m / s) k buf in
-      let m' = paste m (k * s) (1 ∷ form buf) s in
-      outcome-ap (image_tracks s w) r m' m ∙ (outcome-same r (image_tracks s w m') (set (image_tracks s w m) k (Some buf)) (image_tracks s w m) (λ ok. done (storing-ok (length m / s) k buf ok).1 (h ok).0 (h ok).1) ∙ rw n)
+      let m' = paste m (k * s) (f.written ∷ f.numbers buf) s in
+      outcome-ap (image_tracks f) r m' m
+      ∙ (outcome-same r (image_tracks f m') (set (image_tracks f m) k (Some buf)) (image_tracks f m)
+      (λ ok. let t = storing-ok (length m / s) k buf ok in done t.1 (law.long buf t.0) (law.back buf t.0 t.2)) ∙ rw n)
     where
-      done : k < length m / s → length (1 ∷ form buf) ≡ s → w (form buf) ≡ buf → image_tracks s w (paste m (k * s) (1 ∷ form buf) s) ≡ set (image_tracks s w m) k (Some buf)
+      done : k < length m / f.stride → length (f.numbers buf) + 1 ≡ f.stride → f.words (f.numbers buf) ≡ buf
+          → image_tracks f (paste m (k * f.stride) (f.written ∷ f.numbers buf) f.stride) ≡ set (image_tracks f m) k (Some buf)
       done l e q =
-          let f : k * s + s ≤ length m = room s (length m) k l in
-          image-set m (paste m (k * s) (1 ∷ form buf) s) k (paste-length m (1 ∷ form buf) (k * s) s f e) l
-          (λ p o. ⊎_elim (paste-below m (1 ∷ form buf) (k * s) s f e p) (paste-above m (1 ∷ form buf) (k * s) s f e p) o)
-          ∙ ap (λ (c : List ℕ). set (image_tracks s w m) k (track_of w c)) (part-paste s m (1 ∷ form buf) k f e)
-          ∙ ap (λ (ws : List ℕ). set (image_tracks s w m) k (Some ws)) q
+          let s = f.stride in
+          let ns = f.written ∷ f.numbers buf in
+          let long : length ns ≡ s = omega arith in
+          let fits : k * s + s ≤ length m = room s (length m) k l in
+          let t : track_of f (part s (paste m (k * s) ns s) k) ≡ Some buf = ap (track_of f) (part-paste s m ns k fits long) ∙ (rw law.written (ap Some q)) in
+          image-set f m (paste m (k * s) ns s) k (paste-length m ns (k * s) s fits long) l
+          (λ p o. ⊎_elim (paste-below m ns (k * s) s fits long p f.blank) (paste-above m ns (k * s) s fits long p f.blank) o)
+          ∙ ap (set (image_tracks f m) k) t
 
-  -- an image's tape is sound where what the numbers of a track are read as is
-  pub image-sound : (m : List ℕ) → ((c : List ℕ) → length c ≡ s → SoundTrack (Some (w (drop 1 c)))) → Sound (image_tracks s w m)
-  image-sound m h k l =
-      let l' : k < length m / s = omega (arith, length-image m) in
-      let c = part s m k in
-      let e : length c ≡ s = length_part s m k (room s (length m) k l') in
-      rw (get-image m k l') (elim (eqb (get_or c 0 0) 1) as (λ b. SoundTrack (cond b (Some (w (drop 1 c))) None)) [ true ↦ h c e | false ↦ tt ])
+-- what fetch answers and delivers where the tests pass, by what is read at the place of the flag: of a blank track,
+module _ {N : Type 0} (f : Format N) (m : List N) (k : ℕ) (buf : List ℕ) (t : ℕ) (ts : t ≡ length (image_tracks f m)) (h : Ok tt ≡ reached t k (length buf))
+    (l : k < t) (s : ℕ) (e : s ≡ f.stride) (some : 0 < f.stride) (flag : N) (i : flag ≡ get_or m (k * s) flag) where
+  found : get_or (image_tracks f m) k None ≡ cond (f.marks flag) (Some (f.words (take (s - 1) (drop (k * s + 1) m)))) None
+  found =
+      let l' : k < length m / f.stride = omega (arith, length-image f m) in
+      get-image f m k l' ∙ track-at f m k (k * s) (s - 1) flag l' (ap (λ (n : ℕ). k * n) e) (omega arith) (sym i)
 
-  -- what fetch answers and delivers where a test declines, where the track is blank, and where it is written
-  pub fetch-declined : (m : List ℕ) (k : ℕ) (buf : List ℕ) (e : TapeFault) → reached (length m / s) k (length buf) ≡ Err e
-      → (fetched (image_tracks s w m) k (length buf) ≡ Err e) × (delivered (image_tracks s w m) k buf ≡ buf)
-  fetch-declined m k buf e h =
-      let a : fetched (image_tracks s w m) k (length buf) ≡ Err e = rw (length-image m, h) in
-      (a, rw a)
+  passed : reached (length (image_tracks f m)) k (length buf) ≡ Ok tt
+  passed = rw (← ts) (sym h)
 
-  pub fetch-blank : (m : List ℕ) (k : ℕ) (buf : List ℕ) → reached (length m / s) k (length buf) ≡ Ok tt → k < length m / s → (get_or m (k * s) 0 ≡ 1 → ⊥)
-      → (fetched (image_tracks s w m) k (length buf) ≡ Err Blank) × (delivered (image_tracks s w m) k buf ≡ buf)
-  fetch-blank m k buf h l ne =
-      let z : get_or (part s m k) 0 0 ≡ get_or m (k * s) 0 = get_d_part s m k 0 pos ∙ ap (λ (p : ℕ). get_or m p 0) (add-zero (k * s)) in
-      let b : eqb (get_or (part s m k) 0 0) 1 ≡ false = ne_eqb _ _ (λ q. ne (sym z ∙ q)) in
-      let t : get_or (image_tracks s w m) k None ≡ None = get-image m k l ∙ rw b in
-      let a : fetched (image_tracks s w m) k (length buf) ≡ Err Blank = rw (length-image m, h, t) in
-      (a, rw a)
+  pub fetch-blank : true ≡ not (f.marks flag) → (fetched (image_tracks f m) k (length buf) ≡ Err Blank) × (delivered (image_tracks f m) k buf ≡ buf)
+  fetch-blank z =
+      let t : get_or (image_tracks f m) k None ≡ None = rw (not-true (f.marks flag) (sym z)) at found in
+      let r : fetched (image_tracks f m) k (length buf) ≡ Err Blank = rw (passed, t) in
+      (r, rw r)
 
-  pub fetch-done : (m : List ℕ) (k : ℕ) (buf : List ℕ) → reached (length m / s) k (length buf) ≡ Ok tt → k < length m / s → get_or m (k * s) 0 ≡ 1
-      → (fetched (image_tracks s w m) k (length buf) ≡ Ok tt) × (delivered (image_tracks s w m) k buf ≡ w (drop 1 (part s m k)))
-  fetch-done m k buf h l one =
-      let z : get_or (part s m k) 0 0 ≡ 1 = get_d_part s m k 0 pos ∙ (ap (λ (p : ℕ). get_or m p 0) (add-zero (k * s)) ∙ one) in
-      let t : get_or (image_tracks s w m) k None ≡ Some (w (drop 1 (part s m k))) = get-image m k l ∙ rw z in
-      let a : fetched (image_tracks s w m) k (length buf) ≡ Ok tt = rw (length-image m, h, t) in
-      (a, rw (a, t))
+  -- and of a written one
+  pub fetch-done : false ≡ not (f.marks flag)
+      → (fetched (image_tracks f m) k (length buf) ≡ Ok tt) × (delivered (image_tracks f m) k buf ≡ f.words (take (s - 1) (drop (k * s + 1) m)))
+  fetch-done z =
+      let t : get_or (image_tracks f m) k None ≡ Some (f.words (take (s - 1) (drop (k * s + 1) m))) = rw (not-false (f.marks flag) (sym z)) at found in
+      let r : fetched (image_tracks f m) k (length buf) ≡ Ok tt = rw (passed, t) in
+      (r, rw (r, t))

@@ -1,45 +1,73 @@
 -- How an image in memory holds a tape.
-use Rattle.std.specs.Prelude.{ℕ, zero, suc, ◌+◌, ◌*◌, ◌/◌, ◌%◌, ◌^◌, cond, List, [], ◌∷◌, ◌++◌, map, length, take, drop, Some, None, ◌==◌, nat_lt, slice_index, slice_set}
+use Rattle.std.specs.Prelude.{◌≡◌, ℕ, zero, suc, ◌+◌, ◌*◌, ◌/◌, ◌%◌, ◌^◌, ◌<◌, Bool, true, false, cond, List, [], ◌∷◌, ◌++◌, map, length, take, drop, Some, None, ◌==◌, nat_lt, slice_index, slice_set}
 use Rattle.std.proofs.Math.Seq.{paste}
 use Rattle.std.specs.List.{range_with_len}
-use Rattle.tape.specs.Tape.{Track, outcome, storing, blanking}
+use Rattle.tape.specs.Tape.{Track, SoundTrack, narrow, outcome, storing, blanking}
 
--- the k-th part of a list that is cut into parts of `size` numbers
-abbrev pub part : ℕ → List ℕ → ℕ → List ℕ
+-- the k-th part of a list that is cut into parts of `size` items
+abbrev pub part : {X : Type 0} → ℕ → List X → ℕ → List X
 part size xs k = take size (drop (k * size) xs)
 
--- what the numbers of one track mean: it is written where the first is 1, and `words` reads its words from the others
-abbrev pub track_of : (List ℕ → List ℕ) → List ℕ → Track
-track_of words numbers = cond (slice_index numbers 0 == 1) (Some (words (drop 1 numbers))) None
+-- how a track stands in numbers of one type: its flag, and behind it the numbers that hold its words
+pub record Format (N : Type 0) : Type 0 where
+  -- how many numbers a track takes, the flag among them
+  pub stride : ℕ
+  -- the flag of a written track, and the one that a blank leaves
+  pub written : N
+  pub blank : N
+  -- whether a track with that flag is written
+  pub marks : N → Bool
+  -- the words that the numbers behind the flag are read as
+  pub words : List N → List ℕ
+  -- the numbers that words are written as
+  pub numbers : List ℕ → List N
 
--- the tape in an image of `stride` numbers a track: as many tracks as are there whole, and a part of one at the end is none
-unfoldable pub image_tracks : ℕ → (List ℕ → List ℕ) → List ℕ → List Track
-image_tracks stride words memory = map (λ k. track_of words (part stride memory k)) (range_with_len 0 (length memory / stride))
+-- what every format owes: what is written reads as it was, what is blanked reads as blank, and all that is read is sound
+pub record Lawful {N : Type 0} (f : Format N) : Type 0 where
+  pub some : 0 < f.stride
+  pub written : f.marks f.written ≡ true
+  pub blank : f.marks f.blank ≡ false
+  pub long : (ws : List ℕ) → length ws ≡ 4608 → length (f.numbers ws) + 1 ≡ f.stride
+  pub back : (ws : List ℕ) → length ws ≡ 4608 → narrow ws ≡ true → f.words (f.numbers ws) ≡ ws
+  pub sound : (ns : List N) → length ns + 1 ≡ f.stride → SoundTrack (Some (f.words ns))
 
--- the memory of an image after a store: the numbers of track k become a 1 and the form of the words, no other changes
-abbrev pub image_stored : ℕ → (List ℕ → List ℕ) → List ℕ → ℕ → List ℕ → List ℕ
-image_stored stride form memory k buf =
-    outcome (storing (length memory / stride) k buf) (paste memory (k * stride) (1 ∷ form buf) stride) memory
+-- what the numbers of one track mean: it is written where its flag says so, and its words are read from the others
+abbrev pub track_of : {N : Type 0} → Format N → List N → Track
+track_of f [] = None
+track_of f (flag ∷ others) = cond (f.marks flag) (Some (f.words others)) None
 
--- the memory of an image after a blank: the first number of track k alone becomes 0
-abbrev pub image_blanked : ℕ → List ℕ → ℕ → List ℕ
-image_blanked stride memory k = outcome (blanking (length memory / stride) k) (slice_set memory (k * stride) 0) memory
+-- the tape in an image: as many tracks as are there whole, and a part of one at the end is none
+unfoldable pub image_tracks : {N : Type 0} → Format N → List N → List Track
+image_tracks f memory = map (λ k. track_of f (part f.stride memory k)) (range_with_len 0 (length memory / f.stride))
+
+-- the memory of an image after a store: the numbers of track k become the flag and the form of the words, no other changes
+abbrev pub image_stored : {N : Type 0} → Format N → List N → ℕ → List ℕ → List N
+image_stored f memory k buf =
+    outcome (storing (length memory / f.stride) k buf) (paste memory (k * f.stride) (f.written ∷ f.numbers buf) f.stride) memory
+
+-- the memory of an image after a blank: the flag of track k alone changes
+abbrev pub image_blanked : {N : Type 0} → Format N → List N → ℕ → List N
+image_blanked f memory k = outcome (blanking (length memory / f.stride) k) (slice_set memory (k * f.stride) f.blank) memory
 
 -- a stored number above 1,023 counts as 0
 abbrev pub capped : ℕ → ℕ
 capped w = cond (nat_lt w 1024) w 0
 
--- a word image has 4,609 numbers a track: the flag and a number to each word; this is its tape,
+-- a word image has 4,609 numbers a track: the flag, 1 where it is written and 0 after a blank, and a number to each word
+abbrev pub word_format : Format ℕ
+word_format = record { stride = 4609; written = 1; blank = 0; marks = λ n. n == 1; words = map capped; numbers = λ ws. ws }
+
+-- this is its tape,
 abbrev pub word_tracks : List ℕ → List Track
-word_tracks = image_tracks 4609 (map capped)
+word_tracks = image_tracks word_format
 
 -- and its memory after a store,
 abbrev pub word_stored : List ℕ → ℕ → List ℕ → List ℕ
-word_stored = image_stored 4609 (λ ws. ws)
+word_stored = image_stored word_format
 
 -- and after a blank
 abbrev pub word_blanked : List ℕ → ℕ → List ℕ
-word_blanked = image_blanked 4609
+word_blanked = image_blanked word_format
 
 -- a quad is four words of ten bits, and the five bytes that the same forty bits are, highest bit first: one number, whose
 -- digits are the words in base 1,024 and the bytes in base 256, the highest digit first; this is the number of four words,
@@ -79,14 +107,18 @@ unpacked bs = chain (unpacked_at bs) 1152
 abbrev pub packed : List ℕ → List ℕ
 packed ws = chain (packed_at ws) 1152
 
--- a packed image has 5,761 bytes a track: the flag and the packed words; this is its tape,
+-- a packed image has 5,761 bytes a track: the flag, 1 where it is written and 0 after a blank, and the packed words
+abbrev pub packed_format : Format ℕ
+packed_format = record { stride = 5761; written = 1; blank = 0; marks = λ n. n == 1; words = unpacked; numbers = packed }
+
+-- this is its tape,
 abbrev pub packed_tracks : List ℕ → List Track
-packed_tracks = image_tracks 5761 unpacked
+packed_tracks = image_tracks packed_format
 
 -- and its memory after a store,
 abbrev pub packed_stored : List ℕ → ℕ → List ℕ → List ℕ
-packed_stored = image_stored 5761 packed
+packed_stored = image_stored packed_format
 
 -- and after a blank
 abbrev pub packed_blanked : List ℕ → ℕ → List ℕ
-packed_blanked = image_blanked 5761
+packed_blanked = image_blanked packed_format

@@ -1,6 +1,6 @@
 ghost use Rattle.images.specs.Images.{word_tracks};
 
-use crate::word_image::{STRIDE, fetch_words};
+use crate::image::{fetch, tracks};
 use tape::fault::TapeFault;
 use tape::traits::Playable;
 
@@ -14,10 +14,10 @@ impl Playable for InhibitedImage<'_> {
     ghost tracks = { λ s. word_tracks s.memory.now };
 
     fn length(&self) -> usize {
-        self.memory.len() / STRIDE
+        tracks(self.memory)
     }
 
     fn fetch(&self, track: usize, buffer: &mut [u16]) -> Result<(), TapeFault> {
-        fetch_words(self.memory, track, buffer)
+        fetch(self.memory, track, buffer)
     }
 }

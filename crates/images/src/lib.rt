@@ -1,7 +1,8 @@
 //! Tapes in memory: a word image, a packed image, and a word image that can only be played.
 #![tactic(auto)]
 
-mod checks;
+pub mod image;
 pub mod inhibited;
+mod number;
 pub mod packed_image;
 pub mod word_image;

@@ -1,5 +1,6 @@
 -- What a tape is, and what each call answers and leaves.
-use Rattle.std.specs.Prelude.{◌≡◌, ℕ, ◌<◌, Bool, true, false, cond, List, [], ◌∷◌, length, Some, None, Ok, Err, Option, Result, ◌==◌, nat_lt, slice_index, slice_index_or, slice_set}
+use Rattle.std.specs.Prelude.{◌≡◌, ℕ, ◌<◌, Bool, cond, List, [], length, Some, None, Ok, Err, Option, Result, ◌==◌, nat_lt, slice_index, slice_index_or, slice_set}
+use Rattle.std.specs.List.{list_all}
 use Rattle.tape.specs.declared.fault.TapeFault.{TapeFault}
 use Rattle.tape.specs.declared.fault.TapeFault.TheVariants.{NoTrack, Blank, WrongBuffer, WideWord}
 
@@ -46,8 +47,7 @@ words_of (Some ws) = ws
 
 -- whether each word is below 1,024
 abbrev pub narrow : List ℕ → Bool
-narrow [] = true
-narrow (w ∷ ws) = cond (nat_lt w 1024) (narrow ws) false
+narrow ws = list_all (λ w. nat_lt w 1024) ws
 
 -- what fetch answers for track k and a track buffer of `size` numbers
 abbrev pub fetched : List Track → ℕ → ℕ → Answer

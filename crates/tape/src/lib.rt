@@ -4,6 +4,7 @@
 //! that is lent.
 #![tactic(auto)]
 
+pub mod checks;
 pub mod fault;
 pub mod lent;
 pub mod shared;

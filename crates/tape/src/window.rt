@@ -1,9 +1,10 @@
-ghost use Rattle.std.specs.Prelude.{◌≡◌, ◌+◌, ◌-◌, ◌<◌, ◌≤◌, min, length, MatchOption};
-ghost use Rattle.tape.specs.Tape.{storing, stored, blanking, blanked};
+ghost use Rattle.std.specs.Prelude.{◌≡◌, ℕ, ◌+◌, ◌^◌, ◌<◌, length};
+ghost use Rattle.tape.specs.Tape.{Sound, storing, stored, blanking, blanked};
 ghost use Rattle.tape.specs.Windows.{shown, stored_below, blanked_below, WindowRest, rest_of};
 
+use crate::checks::{reach, within};
 use crate::fault::TapeFault;
-use crate::traits::{Playable, Recordable, WORDS};
+use crate::traits::{Playable, Recordable};
 
 /// Neighbouring tracks of a tape, as a tape: `count` of them from `first` on, as far as the tape below has them.
 #[derive(Drop)]
@@ -13,21 +14,14 @@ pub struct Window<T> {
     pub count: usize,
 }
 
-/// Where a track of a window lies on a tape of so many tracks below, if the window has it.
-fn place(tracks: usize, first: usize, count: usize, track: usize) -> Option<usize>
-    ensures { MatchOption result (min count (tracks - first) ≤ track) (λ p. (p ≡ first + track) × (track < count) × (p < tracks)) }
-{
-    if track < count && first < tracks && track < tracks - first {
-        Some(first + track)
-    } else {
-        None
-    }
-}
-
 impl<T: Playable> Playable for Window<T> {
     ghost tracks = { shown T.Playable.tracks };
 
-    fn length(&self) -> usize {
+    fn length(&self) -> usize
+        ensures answer { result ≡ length (shown T.Playable.tracks self.now) }
+        ensures sound { Sound (shown T.Playable.tracks self.now) }
+        ensures place { (k : ℕ) → k < result → self.now.first + k < 2 ^ 64 }
+    {
         self.below
             .length()
             .saturating_sub(self.first)
@@ -35,14 +29,8 @@ impl<T: Playable> Playable for Window<T> {
     }
 
     fn fetch(&self, track: usize, buffer: &mut [u16]) -> Result<(), TapeFault> {
-        let tracks = self.below.length();
-        if buffer.len() != WORDS {
-            return Err(TapeFault::WrongBuffer);
-        }
-        match place(tracks, self.first, self.count, track) {
-            Some(p) => self.below.fetch(p, buffer),
-            None => Err(TapeFault::NoTrack),
-        }
+        reach(self.length(), track, buffer.len())?;
+        self.below.fetch(self.first + track, buffer)
     }
 }
 
@@ -57,13 +45,8 @@ impl<T: Recordable> Recordable for Window<T> {
         ensures tape { shown T.Playable.tracks self.new ≡ stored (shown T.Playable.tracks self.old) track buffer.now }
         ensures below { T.Playable.tracks self.new.below ≡ stored_below T.Playable.tracks self.old track buffer.now }
     {
-        if buffer.len() != WORDS {
-            return Err(TapeFault::WrongBuffer);
-        }
-        match place(self.below.length(), self.first, self.count, track) {
-            Some(p) => self.below.store(p, buffer),
-            None => Err(TapeFault::NoTrack),
-        }
+        reach((*self).length(), track, buffer.len())?;
+        self.below.store(self.first + track, buffer)
     }
 
     fn blank(&mut self, track: usize) -> Result<(), TapeFault>
@@ -72,9 +55,7 @@ impl<T: Recordable> Recordable for Window<T> {
         ensures tape { shown T.Playable.tracks self.new ≡ blanked (shown T.Playable.tracks self.old) track }
         ensures below { T.Playable.tracks self.new.below ≡ blanked_below T.Playable.tracks self.old track }
     {
-        match place(self.below.length(), self.first, self.count, track) {
-            Some(p) => self.below.blank(p),
-            None => Err(TapeFault::NoTrack),
-        }
+        within((*self).length(), track)?;
+        self.below.blank(self.first + track)
     }
 }
