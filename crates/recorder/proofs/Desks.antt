@@ -1,5 +1,5 @@
 -- Steps on an open recording and its tape.
-use Rattle.std.proofs.Common.{◌≡◌, ℕ, ◌+◌, ◌*◌, ◌<◌, ◌≤◌, Bool, true, cond, ◌&&◌, eqb, ltb, leb, List, [], length, replicate, Ok, Result, ap, ◌∙◌, ap₂, arith}
+use Rattle.std.proofs.Common.{◌≡◌, ℕ, ◌+◌, ◌*◌, ◌<◌, ◌≤◌, Bool, true, cond, ◌&&◌, eqb, ltb, leb, List, [], length, replicate, Ok, Result, sym, ap, ◌∙◌, subst, ap₂, arith}
 use Rattle.std.proofs.lemmas.Bool.{cond-true, eq-eqb}
 use Rattle.std.proofs.lemmas.Bool.Decides.{nat_tests}
 use Rattle.writing.specs.Groups.{Answer as Written, lent, reached, and_then as after, outcome as written, with_group}
@@ -8,9 +8,13 @@ use Rattle.index.specs.declared.fault.LayFault.{LayFault}
 use Rattle.index.specs.Writing.{laying}
 use Rattle.tape.specs.Tape.{Track}
 use Rattle.channel.specs.Line.{Code}
+use Rattle.index.specs.declared.kind.Kind.{Kind}
 use Rattle.index.specs.declared.kind.Kind.TheVariants.{Last, Total}
+use lib.ListN.{length-replicate}
+use Rattle.runs.specs.Run.{Lent}
 use Rattle.runs.proofs.Storing.{stored-length}
-use Rattle.calls.specs.Held.{Book, Held, turned}
+use Rattle.recorder.specs.Views.{Ready}
+use Rattle.calls.specs.Held.{Book, Held, entered, turned}
 use Rattle.calls.specs.Laying.{Desk, desk, laid, closing, taped, stored_on, put, put_part, room}
 
 -- a group stored leaves the tape its length
@@ -24,6 +28,45 @@ held b g = record { book = b; group = g }
 pub desk-stored : (c : Code) (h : Held) (ts us : List Track) (e : Book) (g : List ℕ) → g ≡ replicate (length h.group) 0
     → e ≡ turned h.book → us ≡ taped c 0 (desk h ts) → desk (held e g) us ≡ stored_on c (desk h ts)
 desk-stored c h ts us e g p q r = ap₂ desk (ap₂ held q p) r
+
+-- lent memory of the same sizes serves as well
+pub ready-lent : (m n : Lent) (d : Desk) → n.track ≡ m.track → n.bench ≡ m.bench → Ready m d → Ready n d
+ready-lent m n d t b r =
+    let a = r.admitted in
+    record {
+      admitted = record { track = t ∙ a.track; bench = b ∙ a.bench; group = a.group; tap = a.tap; start = a.start; limit = a.limit };
+      tape = r.tape;
+    }
+
+-- and the next one can be laid into as the last
+pub ready-stored : (c : Code) (m : Lent) (h : Held) (ts us : List Track) (e : Book) (g : List ℕ) → g ≡ replicate (length h.group) 0
+    → e ≡ turned h.book → us ≡ taped c 0 (desk h ts) → Ready m (desk h ts) → Ready m (desk (held e g) us)
+ready-stored c m h ts us e g p q r d =
+    subst (Ready m) (sym (desk-stored c h ts us e g p q r)) (
+    let a = d.admitted in
+    record {
+      admitted = record { track = a.track; bench = a.bench; group = length-replicate (length h.group) 0 ∙ a.group; tap = a.tap; start = a.start; limit = a.limit };
+      tape = omega (arith, d.tape, length-taped c 0 (desk h ts));
+    })
+
+-- an entry laid changes nothing of that
+pub ready-put : (m : Lent) (k : Kind) (n : ℕ) (bs : List ℕ) (h i : Held) (ts : List Track) → i ≡ laid k n bs h → length i.group ≡ 126632
+    → Ready m (desk h ts) → Ready m (desk i ts)
+ready-put m k n bs h i ts e l d =
+    let a = d.admitted in
+    let b : i.book ≡ entered k n (length bs) h.book = ap (λ (x : Held). x.book) e in
+    let limit : i.book.limit ≡ h.book.limit = ap (λ (x : Book). x.limit) b in
+    record {
+      admitted = record {
+        track = a.track;
+        bench = a.bench;
+        group = l;
+        tap = omega (arith, a.tap, ap (λ (x : Book). x.settings.tap) b);
+        start = omega (arith, a.start, ap (λ (x : Book). x.settings.start) b);
+        limit = omega (arith, a.limit, limit);
+      };
+      tape = omega (arith, d.tape, limit);
+    }
 
 -- a last part, room for the total, and the total
 pub laid-then-total : (c : Code) (n : ℕ) (bs : List ℕ) (h : Held) (ts us : List Track) (h₁ h₂ h₃ : Held) → h₁ ≡ laid Last (length bs) bs h

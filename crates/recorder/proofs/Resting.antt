@@ -84,14 +84,11 @@ pub record Resting (c : Code) (n : ℕ) (bs rest : List ℕ) (d e : Desk) : Type
   pub few : length rest ≤ 16777215
   pub opening : free e.held.book ≡ 126596
   pub next : rest_ends e.held.book.number (length rest) ≤ e.held.book.limit
-  pub tap : e.held.book.settings.tap < 32768
-  pub start : e.held.book.settings.start < 32768
-  pub tape : 46 * e.held.book.limit ≤ length e.tracks
 
 -- a middle part more; the rest is written as a range of the code
 pub resting-more : (c : Code) (n p : ℕ) (bs rest : List ℕ) (d e f : Desk) → Resting c n bs rest d e → free e.held.book < length rest + 4 → p ≡ free e.held.book - 4
-    → f ≡ stored_on c (put_part Middle (take (p - 0) rest) e) → length f.tracks ≡ length e.tracks → Resting c n bs (take (length rest - p) (drop p rest)) d f
-resting-more c n p bs rest d e f r h q w t = subst (λ (us : List ℕ). Resting c n bs us d f) (sym (take_all (length rest - p) (drop p rest) (omega (arith, length-drop p rest))))
+    → f ≡ stored_on c (put_part Middle (take (p - 0) rest) e) → Resting c n bs (take (length rest - p) (drop p rest)) d f
+resting-more c n p bs rest d e f r h q w = subst (λ (us : List ℕ). Resting c n bs us d f) (sym (take_all (length rest - p) (drop p rest) (omega (arith, length-drop p rest))))
     (
     let l = length-drop p rest in
     let o = r.opening in
@@ -106,7 +103,4 @@ resting-more c n p bs rest d e f r h q w t = subst (λ (us : List ℕ). Resting 
       few = omega (arith, r.few);
       opening = ap (λ (x : Book). free x) b;
       next = omega (arith, r.next, k, m);
-      tap = omega (arith, r.tap, ap (λ (x : Book). x.settings.tap) b);
-      start = omega (arith, r.start, ap (λ (x : Book). x.settings.start) b);
-      tape = omega (arith, r.tape, m, t);
     })

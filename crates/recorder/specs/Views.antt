@@ -1,8 +1,10 @@
 -- What an open recording of the code holds.
-use Rattle.std.specs.Prelude.{Some, None, Ok, Err, Option}
+use Rattle.std.specs.Prelude.{◌≡◌, ◌*◌, ◌<◌, ◌≤◌, length, Some, None, Ok, Err, Option}
 use Rattle.calls.specs.declared.fault.Decline.{Decline}
 use Rattle.calls.specs.Declines.{Answer}
 use Rattle.calls.specs.Held.{Book, Held}
+use Rattle.calls.specs.Laying.{Desk}
+use Rattle.runs.specs.Run.{Lent}
 use Rattle.recorder.specs.declared.ledger.Ledger.{Ledger}
 use Rattle.recorder.specs.declared.open.OpenRecording.{OpenRecording}
 
@@ -17,3 +19,17 @@ held_in r = record { book = book_of r.ledger; group = r.group.now }
 abbrev pub decline_of : Answer → Option Decline
 decline_of (Ok u) = None
 decline_of (Err e) = Some e
+
+-- what the tests of a call have found of the lent memory and of the recording
+pub record Admitted (m : Lent) (h : Held) : Type 0 where
+  pub track : m.track ≡ 4608
+  pub bench : m.bench ≡ 138048
+  pub group : length h.group ≡ 126632
+  pub tap : h.book.settings.tap < 32768
+  pub start : h.book.settings.start < 32768
+  pub limit : 0 < h.book.limit
+
+-- and of the tape: it still has the groups that the recording may have
+pub record Ready (m : Lent) (d : Desk) : Type 0 where
+  pub admitted : Admitted m d.held
+  pub tape : 46 * d.held.book.limit ≤ length d.tracks

@@ -2,7 +2,7 @@ ghost use Rattle.std.specs.Prelude.{◌≡◌, ℕ, ◌*◌, ◌<◌, ◌≤◌,
 ghost use Rattle.calls.specs.Laying.{desk, taped};
 ghost use Rattle.calls.specs.Declines.{outcome, reaches};
 ghost use Rattle.calls.specs.Calls.{cleared, admits, close_answer, closed_on};
-ghost use Rattle.recorder.specs.Views.{book_of};
+ghost use Rattle.recorder.specs.Views.{book_of, Admitted, Ready};
 
 use crate::ledger::Ledger;
 use calls::fault::Decline;
@@ -25,12 +25,7 @@ impl Ledger {
         bench: &mut [u8],
         buffer: &mut [u16],
     )
-        requires size { length group.old ≡ 126632 }
-        requires tap { self.now.settings.tap < 32768 }
-        requires start { self.now.settings.start < 32768 }
-        requires tape { 46 * self.now.number ≤ length (T.Playable.tracks tape.old) }
-        requires bench { length bench.old ≡ 138048 }
-        requires buffer { length buffer.old ≡ 4608 }
+        requires { Ready (record { track = length buffer.old; bench = length bench.old }) (desk (record { book = book_of self.now; group = group.old }) (T.Playable.tracks tape.old)) }
         ensures group { group.new ≡ replicate (length group.old) 0 }
         ensures tape { T.Playable.tracks tape.new ≡ taped (C.line code.now) last (desk (record { book = book_of self.now; group = group.old }) (T.Playable.tracks tape.old)) }
         ensures kept { T.Recordable.rest tape.new ≡ T.Recordable.rest tape.old }
@@ -56,12 +51,7 @@ impl Ledger {
         bench: &mut [u8],
         buffer: &mut [u16],
     ) -> Result<(), Decline>
-        requires size { length group.old ≡ 126632 }
-        requires tap { self.now.settings.tap < 32768 }
-        requires start { self.now.settings.start < 32768 }
-        requires limit { 0 < self.now.limit }
-        requires bench { length bench.old ≡ 138048 }
-        requires buffer { length buffer.old ≡ 4608 }
+        requires { Admitted (record { track = length buffer.old; bench = length bench.old }) (record { book = book_of self.now; group = group.old }) }
         ensures answer { result ≡ reaches (length (T.Playable.tracks tape.old)) (book_of self.now) }
         ensures tape { T.Playable.tracks tape.new ≡ outcome result (taped (C.line code.now) 1 (desk (record { book = book_of self.now; group = group.old }) (T.Playable.tracks tape.old))) (T.Playable.tracks tape.old) }
         ensures kept { T.Recordable.rest tape.new ≡ T.Recordable.rest tape.old }

@@ -2,7 +2,7 @@ ghost use Rattle.std.specs.Prelude.{◌≡◌, ℕ, ◌<◌, length, replicate};
 ghost use Rattle.calls.specs.Declines.{and_then, outcome, reaches, recordable, markable};
 ghost use Rattle.calls.specs.Laying.{desk, lay_record, lay_mark};
 ghost use Rattle.calls.specs.Calls.{cleared, admits, record_answer, recorded, mark_answer, marked, warn_answer, warned, close_answer, closed_on, groups_stored};
-ghost use Rattle.recorder.specs.Views.{book_of, held_in, decline_of};
+ghost use Rattle.recorder.specs.Views.{book_of, held_in, decline_of, Admitted};
 
 use crate::closed::ClosedRecording;
 use crate::open::OpenRecording;
@@ -32,12 +32,7 @@ impl<'a> OpenRecording<'a> {
         bench: &mut [u8],
         buffer: &mut [u16],
     ) -> Result<(), Decline>
-        requires size { length self.old.group.now ≡ 126632 }
-        requires tap { self.old.ledger.settings.tap < 32768 }
-        requires start { self.old.ledger.settings.start < 32768 }
-        requires limit { 0 < self.old.ledger.limit }
-        requires bench { length bench.old ≡ 138048 }
-        requires buffer { length buffer.old ≡ 4608 }
+        requires { Admitted (record { track = length buffer.old; bench = length bench.old }) (held_in self.old) }
         ensures answer { result ≡ and_then (reaches (length (T.Playable.tracks tape.old)) (book_of self.old.ledger)) (recordable (length bytes.now) (book_of self.old.ledger)) }
         ensures desk { desk (held_in self.new) (T.Playable.tracks tape.new) ≡ outcome result (lay_record (C.line code.now) bytes.now (desk (held_in self.old) (T.Playable.tracks tape.old))) (desk (held_in self.old) (T.Playable.tracks tape.old)) }
         ensures kept { T.Recordable.rest tape.new ≡ T.Recordable.rest tape.old }
@@ -81,12 +76,7 @@ impl<'a> OpenRecording<'a> {
         bench: &mut [u8],
         buffer: &mut [u16],
     ) -> Result<(), Decline>
-        requires size { length self.old.group.now ≡ 126632 }
-        requires tap { self.old.ledger.settings.tap < 32768 }
-        requires start { self.old.ledger.settings.start < 32768 }
-        requires limit { 0 < self.old.ledger.limit }
-        requires bench { length bench.old ≡ 138048 }
-        requires buffer { length buffer.old ≡ 4608 }
+        requires { Admitted (record { track = length buffer.old; bench = length bench.old }) (held_in self.old) }
         ensures answer { result ≡ and_then (reaches (length (T.Playable.tracks tape.old)) (book_of self.old.ledger)) (markable kind (book_of self.old.ledger)) }
         ensures desk { desk (held_in self.new) (T.Playable.tracks tape.new) ≡ outcome result (lay_mark (C.line code.now) kind (desk (held_in self.old) (T.Playable.tracks tape.old))) (desk (held_in self.old) (T.Playable.tracks tape.old)) }
         ensures kept { T.Recordable.rest tape.new ≡ T.Recordable.rest tape.old }

@@ -1,6 +1,6 @@
 ghost use Rattle.std.specs.Prelude.{◌≡◌, ℕ, ◌+◌, ◌-◌, ◌*◌, ◌<◌, ◌≤◌, length};
 ghost use Rattle.calls.specs.Held.{free, roomed, rest_ends, record_ends, mark_ends};
-ghost use Rattle.recorder.specs.Views.{book_of, held_in};
+ghost use Rattle.recorder.specs.Views.{book_of, held_in, Ready};
 ghost use Rattle.calls.specs.Laying.{desk, laid, stored_on, put_part, room, lay_mark, lay_rest, lay_record};
 
 use crate::open::OpenRecording;
@@ -35,16 +35,10 @@ impl<'a> OpenRecording<'a> {
         bench: &mut [u8],
         buffer: &mut [u16],
     )
-        requires size { length self.old.group.now ≡ 126632 }
-        requires tap { self.old.ledger.settings.tap < 32768 }
-        requires start { self.old.ledger.settings.start < 32768 }
-        requires tape { 46 * self.old.ledger.limit ≤ length (T.Playable.tracks tape.old) }
-        requires bench { length bench.old ≡ 138048 }
-        requires buffer { length buffer.old ≡ 4608 }
+        requires ready { Ready (record { track = length buffer.old; bench = length bench.old }) (desk (held_in self.old) (T.Playable.tracks tape.old)) }
         requires next { self.old.ledger.number < self.old.ledger.limit }
         ensures desk { desk (held_in self.new) (T.Playable.tracks tape.new) ≡ stored_on (C.line code.now) (desk (held_in self.old) (T.Playable.tracks tape.old)) }
-        ensures size { length self.new.group.now ≡ 126632 }
-        ensures tape { length (T.Playable.tracks tape.new) ≡ length (T.Playable.tracks tape.old) }
+        ensures ready { Ready (record { track = length buffer.new; bench = length bench.new }) (desk (held_in self.new) (T.Playable.tracks tape.new)) }
         ensures kept { T.Recordable.rest tape.new ≡ T.Recordable.rest tape.old }
         ensures same { self.new.group.ghost_name ≡ self.old.group.ghost_name }
     {
@@ -62,16 +56,10 @@ impl<'a> OpenRecording<'a> {
         bench: &mut [u8],
         buffer: &mut [u16],
     )
-        requires size { length self.old.group.now ≡ 126632 }
-        requires tap { self.old.ledger.settings.tap < 32768 }
-        requires start { self.old.ledger.settings.start < 32768 }
-        requires tape { 46 * self.old.ledger.limit ≤ length (T.Playable.tracks tape.old) }
-        requires bench { length bench.old ≡ 138048 }
-        requires buffer { length buffer.old ≡ 4608 }
+        requires ready { Ready (record { track = length buffer.old; bench = length bench.old }) (desk (held_in self.old) (T.Playable.tracks tape.old)) }
         requires next { (roomed need (book_of self.old.ledger)).number ≤ self.old.ledger.limit }
         ensures desk { desk (held_in self.new) (T.Playable.tracks tape.new) ≡ room (C.line code.now) need (desk (held_in self.old) (T.Playable.tracks tape.old)) }
-        ensures size { length self.new.group.now ≡ 126632 }
-        ensures tape { length (T.Playable.tracks tape.new) ≡ length (T.Playable.tracks tape.old) }
+        ensures ready { Ready (record { track = length buffer.new; bench = length bench.new }) (desk (held_in self.new) (T.Playable.tracks tape.new)) }
         ensures kept { T.Recordable.rest tape.new ≡ T.Recordable.rest tape.old }
         ensures same { self.new.group.ghost_name ≡ self.old.group.ghost_name }
     {
@@ -90,17 +78,11 @@ impl<'a> OpenRecording<'a> {
         bench: &mut [u8],
         buffer: &mut [u16],
     )
-        requires size { length self.old.group.now ≡ 126632 }
-        requires tap { self.old.ledger.settings.tap < 32768 }
-        requires start { self.old.ledger.settings.start < 32768 }
-        requires tape { 46 * self.old.ledger.limit ≤ length (T.Playable.tracks tape.old) }
-        requires bench { length bench.old ≡ 138048 }
-        requires buffer { length buffer.old ≡ 4608 }
+        requires ready { Ready (record { track = length buffer.old; bench = length bench.old }) (desk (held_in self.old) (T.Playable.tracks tape.old)) }
         requires room { self.old.ledger.fill.used + length part.now + 4 * (self.old.ledger.fill.entries + 1) ≤ 126596 }
         requires next { self.old.ledger.number < self.old.ledger.limit }
         ensures desk { desk (held_in self.new) (T.Playable.tracks tape.new) ≡ stored_on (C.line code.now) (put_part kind part.now (desk (held_in self.old) (T.Playable.tracks tape.old))) }
-        ensures size { length self.new.group.now ≡ 126632 }
-        ensures tape { length (T.Playable.tracks tape.new) ≡ length (T.Playable.tracks tape.old) }
+        ensures ready { Ready (record { track = length buffer.new; bench = length bench.new }) (desk (held_in self.new) (T.Playable.tracks tape.new)) }
         ensures kept { T.Recordable.rest tape.new ≡ T.Recordable.rest tape.old }
         ensures same { self.new.group.ghost_name ≡ self.old.group.ghost_name }
     {
@@ -117,17 +99,11 @@ impl<'a> OpenRecording<'a> {
         bench: &mut [u8],
         buffer: &mut [u16],
     )
-        requires size { length self.old.group.now ≡ 126632 }
-        requires tap { self.old.ledger.settings.tap < 32768 }
-        requires start { self.old.ledger.settings.start < 32768 }
-        requires tape { 46 * self.old.ledger.limit ≤ length (T.Playable.tracks tape.old) }
-        requires bench { length bench.old ≡ 138048 }
-        requires buffer { length buffer.old ≡ 4608 }
+        requires ready { Ready (record { track = length buffer.old; bench = length bench.old }) (desk (held_in self.old) (T.Playable.tracks tape.old)) }
         requires kind { 1 ≤ kind }
         requires next { mark_ends (book_of self.old.ledger) ≤ self.old.ledger.limit }
         ensures desk { desk (held_in self.new) (T.Playable.tracks tape.new) ≡ lay_mark (C.line code.now) kind (desk (held_in self.old) (T.Playable.tracks tape.old)) }
-        ensures size { length self.new.group.now ≡ 126632 }
-        ensures tape { length (T.Playable.tracks tape.new) ≡ length (T.Playable.tracks tape.old) }
+        ensures ready { Ready (record { track = length buffer.new; bench = length bench.new }) (desk (held_in self.new) (T.Playable.tracks tape.new)) }
         ensures kept { T.Recordable.rest tape.new ≡ T.Recordable.rest tape.old }
         ensures same { self.new.group.ghost_name ≡ self.old.group.ghost_name }
     {
@@ -145,19 +121,13 @@ impl<'a> OpenRecording<'a> {
         bench: &mut [u8],
         buffer: &mut [u16],
     )
-        requires size { length self.old.group.now ≡ 126632 }
-        requires tap { self.old.ledger.settings.tap < 32768 }
-        requires start { self.old.ledger.settings.start < 32768 }
-        requires tape { 46 * self.old.ledger.limit ≤ length (T.Playable.tracks tape.old) }
-        requires bench { length bench.old ≡ 138048 }
-        requires buffer { length buffer.old ≡ 4608 }
+        requires ready { Ready (record { track = length buffer.old; bench = length bench.old }) (desk (held_in self.old) (T.Playable.tracks tape.old)) }
         requires opening { free (book_of self.old.ledger) ≡ 126596 }
         requires some { 1 ≤ length rest.now }
         requires few { length rest.now ≤ 16777215 }
         requires next { rest_ends self.old.ledger.number (length rest.now) ≤ self.old.ledger.limit }
         ensures desk { desk (held_in self.new) (T.Playable.tracks tape.new) ≡ lay_rest (C.line code.now) (length rest.now) total rest.now (desk (held_in self.old) (T.Playable.tracks tape.old)) }
-        ensures size { length self.new.group.now ≡ 126632 }
-        ensures tape { length (T.Playable.tracks tape.new) ≡ length (T.Playable.tracks tape.old) }
+        ensures ready { Ready (record { track = length buffer.new; bench = length bench.new }) (desk (held_in self.new) (T.Playable.tracks tape.new)) }
         ensures kept { T.Recordable.rest tape.new ≡ T.Recordable.rest tape.old }
         ensures same { self.new.group.ghost_name ≡ self.old.group.ghost_name }
     {
@@ -181,18 +151,12 @@ impl<'a> OpenRecording<'a> {
         bench: &mut [u8],
         buffer: &mut [u16],
     )
-        requires size { length self.old.group.now ≡ 126632 }
-        requires tap { self.old.ledger.settings.tap < 32768 }
-        requires start { self.old.ledger.settings.start < 32768 }
-        requires tape { 46 * self.old.ledger.limit ≤ length (T.Playable.tracks tape.old) }
-        requires bench { length bench.old ≡ 138048 }
-        requires buffer { length buffer.old ≡ 4608 }
+        requires ready { Ready (record { track = length buffer.old; bench = length bench.old }) (desk (held_in self.old) (T.Playable.tracks tape.old)) }
         requires some { 1 ≤ length bytes.now }
         requires few { length bytes.now ≤ 16777215 }
         requires next { record_ends (length bytes.now) (book_of self.old.ledger) ≤ self.old.ledger.limit }
         ensures desk { desk (held_in self.new) (T.Playable.tracks tape.new) ≡ lay_record (C.line code.now) bytes.now (desk (held_in self.old) (T.Playable.tracks tape.old)) }
-        ensures size { length self.new.group.now ≡ 126632 }
-        ensures tape { length (T.Playable.tracks tape.new) ≡ length (T.Playable.tracks tape.old) }
+        ensures ready { Ready (record { track = length buffer.new; bench = length bench.new }) (desk (held_in self.new) (T.Playable.tracks tape.new)) }
         ensures kept { T.Recordable.rest tape.new ≡ T.Recordable.rest tape.old }
         ensures same { self.new.group.ghost_name ≡ self.old.group.ghost_name }
     {

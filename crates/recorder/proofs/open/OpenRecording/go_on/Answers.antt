@@ -2,7 +2,7 @@ use Rattle.std.proofs.Common.{length, refl, ap, ◌∙◌}
 use lib.ListN.{length-replicate}
 use Rattle.recorder.specs.Views.{held_in}
 use Rattle.calls.specs.Laying.{desk}
-use Rattle.recorder.proofs.Desks.{desk-stored, length-taped}
+use Rattle.recorder.proofs.Desks.{desk-stored, ready-lent, ready-stored}
 use Rattle.recorder.proofs.open.OpenRecording.go_on.Goals as goal
 
 pub returns : goal.returns
@@ -13,8 +13,7 @@ returns g c =
     let s = c.store.ensures in
     record {
       desk = desk-stored k h ts _ _ _ s.group c.turned-self.ensures s.tape;
-      size = ap length s.group ∙ (length-replicate _ _ ∙ c.requires.size);
-      tape = ap length s.tape ∙ length-taped k 0 (desk h ts);
+      ready = ready-stored k _ h ts _ _ _ s.group c.turned-self.ensures s.tape (ready-lent _ _ _ c.store.auto.buffer c.store.auto.bench c.requires.ready);
       kept = s.kept;
       same = refl;
     }

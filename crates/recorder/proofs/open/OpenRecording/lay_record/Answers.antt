@@ -16,8 +16,7 @@ returns-else-size-free g c =
           (desk (held_in c.make_room.new.self) (g.T.Playable.tracks c.make_room.new.tape))
           (desk (held_in c.store_part.new.self) (g.T.Playable.tracks c.store_part.new.tape))
           (desk (held_in c.lay_rest.new.self) (g.T.Playable.tracks c.lay_rest.new.tape)) m.desk (ap (λ x. x - 4) c.free-free.ensures) (omega (arith, c.if-size-free.false, c.free-free.ensures)) s.desk r.desk;
-      size = r.size;
-      tape = r.tape ∙ (s.tape ∙ m.tape);
+      ready = r.ready;
       kept = r.kept ∙ (s.kept ∙ m.kept);
       same = r.same ∙ (s.same ∙ m.same);
     }

@@ -1,6 +1,6 @@
 use Rattle.std.proofs.Common.{◌≡◌, length}
 use Rattle.calls.specs.Laying.{desk}
-use Rattle.recorder.specs.Views.{held_in}
+use Rattle.recorder.specs.Views.{held_in, Ready}
 use Rattle.recorder.proofs.Resting.{Resting}
 use Rattle.recorder.proofs.open.OpenRecording.lay_rest.Given as goal
 
@@ -8,12 +8,9 @@ abbrev pub invariant-loop-rest : goal.invariant-loop-rest
 invariant-loop-rest g l =
     Resting (g.C.LineCode.line l.code) l.total l.initial.rest l.rest
     (desk (held_in l.initial.self) (g.T.Playable.tracks l.initial.tape)) (desk (held_in l.self) (g.T.Playable.tracks l.tape))
-    × (length l.self.group.now ≡ 126632)
-    × (length (g.T.Playable.tracks l.tape) ≡ length (g.T.Playable.tracks l.initial.tape))
+    × Ready (record { track = length l.buffer; bench = length l.bench }) (desk (held_in l.self) (g.T.Playable.tracks l.tape))
     × (g.T.Recordable.rest l.tape ≡ g.T.Recordable.rest l.initial.tape)
     × (l.self.group.ghost_name ≡ l.initial.self.group.ghost_name)
-    × (length l.bench ≡ 138048)
-    × (length l.buffer ≡ 4608)
 
 abbrev pub decreases-loop-rest : goal.decreases-loop-rest
 decreases-loop-rest g l = length l.rest
