@@ -1,5 +1,7 @@
-ghost use Rattle.std.specs.Prelude.{◌≡◌};
-ghost use Rattle.index.specs.Succession.{parts_sum, is_idle};
+ghost use Rattle.std.specs.Prelude.{◌≡◌, ℕ, ◌+◌, ◌^◌, ◌<◌, if◌then◌else◌, Some, None};
+ghost use Rattle.index.specs.Succession.{permits, moved, ends, ended, parts_sum, is_idle};
+
+use crate::kind::Kind;
 
 /// The position in the succession of entries. Inside a record: the sum of its parts so far, and the warning of its
 /// first entry, 0 or 1.
@@ -28,6 +30,45 @@ impl State {
             | State::Inside { length, .. }
             | State::Owing { length, .. }
             | State::Owed { length, .. } => length,
+        }
+    }
+
+    /// The position behind an entry before the group's last that names `part` bytes; none where it may not stand here.
+    pub(crate) fn follow(self, kind: Kind, part: u64, warning: u8) -> Option<State>
+        requires { parts_sum self + part < 2 ^ 64 }
+        ensures { result ≡ (if permits self kind then Some (moved self kind part warning) else None) }
+    {
+        let next = match (self, kind) {
+            (State::Inside { length, warned }, Kind::Middle) => State::Begun {
+                length: length + part,
+                warned,
+            },
+            (State::Inside { length, warned }, Kind::Last) => State::Owing {
+                length: length + part,
+                warned,
+            },
+            (State::Idle, Kind::Start) => State::Begun {
+                length: part,
+                warned: warning,
+            },
+            (State::Owing { .. } | State::Owed { .. }, Kind::Total) => State::Idle,
+            (State::Idle, Kind::Mark | Kind::Entire) => State::Idle,
+            _ => return None,
+        };
+        Some(next)
+    }
+
+    /// The position behind the group's last entry; none where the group may not end by it.
+    pub(crate) fn end(self, kind: Kind) -> Option<State>
+        ensures { result ≡ (if ends self kind then Some (ended self) else None) }
+    {
+        match (self, kind) {
+            (State::Begun { length, warned }, Kind::Skip) => {
+                Some(State::Inside { length, warned })
+            }
+            (State::Owing { length, warned }, Kind::Skip) => Some(State::Owed { length, warned }),
+            (State::Idle, Kind::Skip) => Some(State::Idle),
+            _ => None,
         }
     }
 

@@ -1,5 +1,5 @@
-ghost use Rattle.std.specs.Prelude.{◌≡◌, ℕ, ◌+◌, ◌-◌, ◌^◌, ◌<◌, ◌≤◌, length, if◌then◌else◌};
-ghost use Rattle.index.specs.Succession.{permits, moved, ends, ended, parts_sum, count_fits};
+ghost use Rattle.std.specs.Prelude.{◌≡◌, ◌≤◌, length};
+ghost use Rattle.index.specs.Succession.{count_fits};
 ghost use Rattle.index.specs.Contents.{meant, bytes_in};
 ghost use Rattle.index.specs.Counted.{counted, capped, stepped, closed, outcome, Small};
 
@@ -73,67 +73,6 @@ fn count_fits(kind: Kind, count: u32, limit: usize, used: usize, sum: u64) -> bo
 }
 
 impl Tally {
-    /// Moves on by an entry before the group's last that names `part` bytes. Where it may not stand here, it answers
-    /// false and changes nothing.
-    fn follow(&mut self, kind: Kind, part: u64, warning: u8) -> bool
-        requires { parts_sum self.old.state + part < 2 ^ 64 }
-        ensures answer { result ≡ permits self.old.state kind }
-        ensures state { self.new.state ≡ (if permits self.old.state kind then moved self.old.state kind part warning else self.old.state) }
-        ensures used { self.new.used ≡ self.old.used }
-        ensures counts { self.new.counts ≡ self.old.counts }
-    {
-        match (self.state, kind) {
-            (State::Inside { length, warned }, Kind::Middle) => {
-                self.state = State::Begun {
-                    length: length + part,
-                    warned,
-                };
-                true
-            }
-            (State::Inside { length, warned }, Kind::Last) => {
-                self.state = State::Owing {
-                    length: length + part,
-                    warned,
-                };
-                true
-            }
-            (State::Idle, Kind::Start) => {
-                self.state = State::Begun {
-                    length: part,
-                    warned: warning,
-                };
-                true
-            }
-            (State::Owing { .. } | State::Owed { .. }, Kind::Total) => {
-                self.state = State::Idle;
-                true
-            }
-            (State::Idle, Kind::Mark | Kind::Entire) => true,
-            _ => false,
-        }
-    }
-
-    /// Moves on by the group's last entry. Where the group may not end by it, it answers false and changes nothing.
-    fn end(&mut self, kind: Kind) -> bool
-        ensures answer { result ≡ ends self.old.state kind }
-        ensures state { self.new.state ≡ (if ends self.old.state kind then ended self.old.state else self.old.state) }
-        ensures used { self.new.used ≡ self.old.used }
-        ensures counts { self.new.counts ≡ self.old.counts }
-    {
-        match (self.state, kind) {
-            (State::Begun { length, warned }, Kind::Skip) => {
-                self.state = State::Inside { length, warned };
-                true
-            }
-            (State::Owing { length, warned }, Kind::Skip) => {
-                self.state = State::Owed { length, warned };
-                true
-            }
-            (State::Idle, Kind::Skip) => true,
-            _ => false,
-        }
-    }
-
     /// An entry before the group's last: its flag, its succession, its count.
     pub fn step(&mut self, limit: usize, number: u16, entry: IndexEntry) -> Result<(), IndexFault>
         requires small { Small self.old }
@@ -146,9 +85,8 @@ impl Tally {
         }
         let sum = self.state.parts_sum();
         let part = entry.content.length();
-        if !self.follow(kind, part as u64, entry.warned) {
-            return Err(IndexFault::Succession { entry: number });
-        }
+        let next = self.state.follow(kind, part as u64, entry.warned);
+        self.state = next.ok_or(IndexFault::Succession { entry: number })?;
         if !count_fits(kind, entry.count, limit, self.used, sum) {
             return Err(IndexFault::Count { entry: number });
         }
@@ -167,9 +105,8 @@ impl Tally {
             return Err(IndexFault::Flag { entry: number });
         }
         let sum = self.state.parts_sum();
-        if !self.end(kind) {
-            return Err(IndexFault::Succession { entry: number });
-        }
+        let next = self.state.end(kind);
+        self.state = next.ok_or(IndexFault::Succession { entry: number })?;
         if !count_fits(kind, entry.count, limit, self.used, sum) {
             return Err(IndexFault::Count { entry: number });
         }
