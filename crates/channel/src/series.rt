@@ -20,6 +20,7 @@ pub fn encode_all<C: LineCode>(
         return None;
     }
     let mut current = state;
+    // The words by their index: of what is written through a zip nothing would be known after the loop.
     for (i, byte) in bytes.iter().enumerate() {
         let (word, next) = code.encode(current, *byte);
         words[i] = word;
@@ -43,6 +44,7 @@ pub fn decode_all<C: LineCode>(
     if bytes.len() != words.len() || lost.len() != words.len() {
         return None;
     }
+    // Bytes and marks by their index, for the same reason.
     for (i, word) in words.iter().enumerate() {
         let byte = code.decode(*word);
         bytes[i] = byte.unwrap_or(0);

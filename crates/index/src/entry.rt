@@ -25,6 +25,7 @@ pub enum Content<'a> {
 }
 
 /// An entry: 1 after a warning and else 0, the count, and what it is.
+// The warning is a number throughout: the flag of an entry adds 8 times it, and a call tests the one that it is given.
 #[derive(Clone, Copy)]
 pub struct IndexEntry<'a> {
     pub warned: u8,

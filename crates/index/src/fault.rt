@@ -31,6 +31,7 @@ impl IndexFault {
     pub fn values(self) -> (u8, u16, u8)
         ensures { result ≡ declined self }
     {
+        // Written out, as a variant with fields has no number of its own.
         match self {
             IndexFault::GroupNumber => (18, 0, 1),
             IndexFault::EntryCount => (18, 0, 2),
@@ -70,6 +71,7 @@ impl GroupFault {
     pub fn number(self) -> u8
         ensures { result ≡ group_decline self }
     {
+        // Written out, as a variant with fields has no number of its own.
         match self {
             GroupFault::WrongLength => 9,
             GroupFault::Index(_) => 18,

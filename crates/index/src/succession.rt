@@ -1,4 +1,4 @@
-ghost use Rattle.std.specs.Prelude.{◌≡◌, ℕ, ◌+◌, ◌^◌, ◌<◌, if◌then◌else◌, Some, None};
+ghost use Rattle.std.specs.Prelude.{◌≡◌, ℕ, ◌+◌, ◌^◌, ◌<◌, is_some, if◌then◌else◌};
 ghost use Rattle.index.specs.Succession.{permits, moved, ends, ended, parts_sum, is_idle};
 
 use crate::kind::Kind;
@@ -33,12 +33,14 @@ impl State {
         }
     }
 
-    /// The position behind an entry before the group's last that names `part` bytes; none where it may not stand here.
-    pub(crate) fn follow(self, kind: Kind, part: u64, warning: u8) -> Option<State>
-        requires { parts_sum self + part < 2 ^ 64 }
-        ensures { result ≡ (if permits self kind then Some (moved self kind part warning) else None) }
+    /// Moves on by an entry before the group's last that names `part` bytes. Where it may not stand here, it gives none
+    /// and changes nothing.
+    pub(crate) fn follow(&mut self, kind: Kind, part: u64, warning: u8) -> Option<()>
+        requires { parts_sum self.old + part < 2 ^ 64 }
+        ensures answer { is_some result ≡ permits self.old kind }
+        ensures state { self.new ≡ (if permits self.old kind then moved self.old kind part warning else self.old) }
     {
-        let next = match (self, kind) {
+        *self = match (*self, kind) {
             (State::Inside { length, warned }, Kind::Middle) => State::Begun {
                 length: length + part,
                 warned,
@@ -55,21 +57,21 @@ impl State {
             (State::Idle, Kind::Mark | Kind::Entire) => State::Idle,
             _ => return None,
         };
-        Some(next)
+        Some(())
     }
 
-    /// The position behind the group's last entry; none where the group may not end by it.
-    pub(crate) fn end(self, kind: Kind) -> Option<State>
-        ensures { result ≡ (if ends self kind then Some (ended self) else None) }
+    /// Moves on by the group's last entry. Where the group may not end by it, it gives none and changes nothing.
+    pub(crate) fn end(&mut self, kind: Kind) -> Option<()>
+        ensures answer { is_some result ≡ ends self.old kind }
+        ensures state { self.new ≡ (if ends self.old kind then ended self.old else self.old) }
     {
-        match (self, kind) {
-            (State::Begun { length, warned }, Kind::Skip) => {
-                Some(State::Inside { length, warned })
-            }
-            (State::Owing { length, warned }, Kind::Skip) => Some(State::Owed { length, warned }),
-            (State::Idle, Kind::Skip) => Some(State::Idle),
-            _ => None,
-        }
+        *self = match (*self, kind) {
+            (State::Begun { length, warned }, Kind::Skip) => State::Inside { length, warned },
+            (State::Owing { length, warned }, Kind::Skip) => State::Owed { length, warned },
+            (State::Idle, Kind::Skip) => State::Idle,
+            _ => return None,
+        };
+        Some(())
     }
 
     /// Whether no record is open.

@@ -85,8 +85,8 @@ impl Tally {
         }
         let sum = self.state.parts_sum();
         let part = entry.content.length();
-        let next = self.state.follow(kind, part as u64, entry.warned);
-        self.state = next.ok_or(IndexFault::Succession { entry: number })?;
+        let moved = self.state.follow(kind, part as u64, entry.warned);
+        moved.ok_or(IndexFault::Succession { entry: number })?;
         if !count_fits(kind, entry.count, limit, self.used, sum) {
             return Err(IndexFault::Count { entry: number });
         }
@@ -105,8 +105,8 @@ impl Tally {
             return Err(IndexFault::Flag { entry: number });
         }
         let sum = self.state.parts_sum();
-        let next = self.state.end(kind);
-        self.state = next.ok_or(IndexFault::Succession { entry: number })?;
+        let ended = self.state.end(kind);
+        ended.ok_or(IndexFault::Succession { entry: number })?;
         if !count_fits(kind, entry.count, limit, self.used, sum) {
             return Err(IndexFault::Count { entry: number });
         }

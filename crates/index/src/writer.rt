@@ -10,6 +10,7 @@ use crate::table::Table;
 use crate::tally::Counts;
 
 /// How full an open group is: its entries and its user bytes.
+// It stands beside the group and not with it in a vector: the memory of a group is lent, of one size, and nothing is allocated.
 #[derive(Clone, Copy)]
 pub struct Fill {
     pub entries: u16,

@@ -48,6 +48,7 @@ impl ReadFault {
     pub fn number(self) -> u8
         ensures { result ≡ (fault_report self).0 }
     {
+        // Written out, as a variant with fields has no number of its own.
         match self {
             ReadFault::TrackBuffer => 6,
             ReadFault::Setting => 8,

@@ -40,6 +40,7 @@ impl PlayFault {
     pub fn number(self) -> u8
         ensures { result ≡ (play_report self).0 }
     {
+        // Written out, as a variant with fields has no number of its own.
         match self {
             PlayFault::TrackBuffer => 6,
             PlayFault::Setting => 8,

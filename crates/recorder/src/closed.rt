@@ -1,6 +1,7 @@
 use calls::fault::Decline;
 
 /// A recording that is closed for good.
+// No Result: the counts stand where closing is declined too.
 #[derive(Clone, Copy)]
 pub struct ClosedRecording {
     /// The groups stored.

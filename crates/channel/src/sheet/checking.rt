@@ -73,6 +73,7 @@ fn narrowed(numbers: &[u32]) -> Option<[u16; NUMBERS]>
     ensures { MatchOption result (Wide numbers.now) (λ t. (t ≡ numbers.now) × Narrow numbers.now) }
 {
     let mut table = [0u16; NUMBERS];
+    // The table by its index: of what is written through a zip nothing would be known after the loop.
     for (i, number) in numbers.iter().enumerate() {
         if *number > LARGEST {
             return None;

@@ -73,7 +73,7 @@ impl Ledger {
         Ok(())
     }
 
-    /// Whether a mark of this kind can be laid.
+    /// Whether a mark of this kind can be laid. The kind is a number: any may be asked for, and another than 1 and 2 is declined.
     pub(crate) fn test_mark(&self, kind: u8) -> Result<(), Decline>
         ensures { result ≡ markable kind (book_of self.now) }
     {

@@ -12,6 +12,8 @@ use tape::traits::Recordable;
 /// The last byte of a group that others follow.
 const GOES_ON: u8 = 0;
 
+// Tape, code, bench and track buffer stay apart. A struct that borrows them was tried: each method then has to say of each of
+// its borrows that it is still the same one, five clauses in place of four parameters.
 impl<'a> OpenRecording<'a> {
     /// Lays an entry with its bytes into the open group.
     fn put(&mut self, kind: Kind, count: u32, bytes: &[u8])
