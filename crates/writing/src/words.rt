@@ -50,12 +50,7 @@ fn send_block<C: LineCode>(
 }
 
 /// Puts the words of the track of an array.
-pub(crate) fn send_track<C: LineCode>(
-    code: &C,
-    position: Address,
-    array: &[u8],
-    words: &mut [u16],
-)
+pub(crate) fn send_track<C: LineCode>(code: &C, position: Address, array: &[u8], words: &mut [u16])
     requires array_len { length array.now ≡ 4096 }
     requires words_len { length words.old ≡ 4608 }
     ensures { words.new ≡ track (C.line code.now) (address position.group position.track) (array_in array.now) }

@@ -11,4 +11,3 @@ invariant-loop-entry l =
     × (l.rows + finished_in (remaining (cursor_of l.entry-iterator)) ≡ finished_in (remaining (cursor_of l.initial.entry-iterator)))
     × (l.bytes ≤ l.entry-iterator.place)
     × (l.rows + l.entry-iterator.left ≤ l.initial.entry-iterator.left)
-

@@ -9,4 +9,3 @@ invariant-loop-entry l =
     Sound (cursor_of l.entry-iterator)
     × Fits (shelf l.self l.output l.rows) (remaining (cursor_of l.entry-iterator))
     × (laid_all (shelf l.self l.output l.rows) (remaining (cursor_of l.entry-iterator)) ≡ laid_all (shelf l.initial.self l.initial.output l.initial.rows) (remaining (cursor_of l.initial.entry-iterator)))
-
