@@ -1,5 +1,5 @@
 -- Numbers of several bytes, as the code puts them together.
-use Rattle.std.proofs.Common.{◌≡◌, ℕ, zero, suc, ◌+◌, ◌*◌, ◌^◌, ◌<◌, Bool, true, false, cond, ◌&&◌, ◌≢◌, List, [], length, get_or, take, drop, sym, refl, ap, ◌∙◌, arith, length-drop, length-take}
+use Rattle.std.proofs.Common.{◌≡◌, ℕ, zero, suc, ◌+◌, ◌*◌, ◌^◌, ◌<◌, Bool, true, false, cond, List, [], length, get_or, take, drop, sym, refl, ap, ◌∙◌, arith, length-drop, length-take}
 use Rattle.index.specs.Bytes.{number, empty}
 use Rattle.std.specs.Prelude.{◌↔◌, IsTrue, EachIndex}
 use Rattle.std.proofs.lemmas.Bool.{eq-eqb, eqb-true, and_parts, and_from, false≢true}

@@ -1,5 +1,5 @@
 -- Writing an index: bytes put in the place of others, and an open group as it fills.
-use Rattle.std.specs.Prelude.{◌≡◌, ℕ, ◌+◌, ◌-◌, ◌*◌, Bool, true, cond, ◌&&◌, List, [], ◌∷◌, ◌++◌, length, take, drop, Ok, Err, Result, ◌==◌, nat_le, nat_lt}
+use Rattle.std.specs.Prelude.{◌≡◌, ℕ, ◌+◌, ◌-◌, ◌*◌, true, cond, List, [], ◌∷◌, ◌++◌, length, take, drop, Ok, Err, Result, ◌==◌, nat_le, nat_lt}
 use Rattle.index.specs.declared.fault.LayFault.{LayFault}
 use Rattle.index.specs.declared.fault.LayFault.TheVariants.{GroupLength, Warning, NoRoom}
 use Rattle.index.specs.declared.kind.Kind.TheVariants.{Skip}

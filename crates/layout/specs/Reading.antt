@@ -1,5 +1,5 @@
 -- What a track reads as.
-use Rattle.std.specs.Prelude.{◌≡◌, ℕ, zero, suc, ◌+◌, ◌*◌, ◌/◌, ◌%◌, ◌≤◌, Bool, true, false, cond, not, ◌&&◌, ◌||◌, List, [], ◌∷◌, ◌++◌, map, length, Some, None, Option, ◌==◌, bit_xor, nat_eq, nat_le, slice_index, slice_set}
+use Rattle.std.specs.Prelude.{◌≡◌, ℕ, zero, suc, ◌+◌, ◌*◌, ◌/◌, ◌%◌, ◌≤◌, Bool, false, cond, not, ◌&&◌, ◌||◌, List, [], ◌∷◌, ◌++◌, map, length, Some, None, Option, ◌==◌, bit_xor, nat_eq, nat_le, slice_index, slice_set}
 use Rattle.std.specs.List.{range_with_len}
 use Rattle.reed_solomon.specs.Words.{syndrome, Checks, Bytes, Places, Off}
 use Rattle.layout.specs.Counts.{every, which}

@@ -1,5 +1,5 @@
 use Rattle.std.proofs.Common.{◌/◌, ◌%◌}
-use Rattle.layout.specs.Placing.{is_data, is_occupied, number_at}
+use Rattle.layout.specs.Placing.{is_data, is_occupied}
 use Rattle.layout.proofs.Data.{data-found, data-low, data-high, data-none}
 use Rattle.layout.proofs.row.data_number_at.Goals as goal
 

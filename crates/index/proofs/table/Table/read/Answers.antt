@@ -1,4 +1,4 @@
-use Rattle.std.proofs.Common.{◌≡◌, ◌+◌, ◌-◌, take, drop, ◌∙◌, arith, rules, length-drop, length-take}
+use Rattle.std.proofs.Common.{◌≡◌, take, drop, ◌∙◌, arith, rules, length-drop, length-take}
 use Rattle.std.proofs.lemmas.List.{get_or-take, get_or-drop}
 use Rattle.index.specs.Bytes.{empty}
 use Rattle.index.proofs.Reading.{empty-is}

@@ -1,7 +1,5 @@
-use Rattle.std.proofs.Common.{length, refl, ap, ◌∙◌}
-use lib.ListN.{length-replicate}
+use Rattle.std.proofs.Common.{refl}
 use Rattle.recorder.specs.Views.{held_in}
-use Rattle.calls.specs.Laying.{desk}
 use Rattle.recorder.proofs.Desks.{desk-stored, ready-lent, ready-stored}
 use Rattle.recorder.proofs.open.OpenRecording.go_on.Goals as goal
 
