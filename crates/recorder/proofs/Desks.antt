@@ -1,5 +1,5 @@
 -- Steps on an open recording and its tape.
-use Rattle.std.proofs.Common.{◌≡◌, ℕ, ◌+◌, ◌*◌, ◌<◌, ◌≤◌, true, cond, ◌&&◌, eqb, ltb, leb, List, [], length, replicate, Ok, Result, sym, ap, ◌∙◌, subst, ap₂, arith}
+use Rattle.std.proofs.Common.{◌≡◌, ℕ, ◌+◌, ◌*◌, ◌<◌, ◌≤◌, true, cond, ◌&&◌, eqb, ltb, leb, List, [], length, replicate, Ok, Result, sym, ap, ◌∙◌, subst, ap₂, arith, rules}
 use Rattle.std.proofs.lemmas.Bool.{cond-true, eq-eqb}
 use Rattle.std.proofs.lemmas.Bool.Decides.{nat_tests}
 use Rattle.writing.specs.Groups.{Answer as Written, lent, reached, and_then as after, outcome as written, with_group}
@@ -11,9 +11,11 @@ use Rattle.channel.specs.Line.{Code}
 use Rattle.index.specs.declared.kind.Kind.{Kind}
 use Rattle.index.specs.declared.kind.Kind.TheVariants.{Last, Total}
 use lib.ListN.{length-replicate}
-use Rattle.runs.specs.Run.{Lent}
 use Rattle.runs.proofs.Storing.{stored-length}
 use Rattle.recorder.specs.Views.{Ready}
+use Rattle.runs.specs.Run.{Lent}
+use Rattle.calls.specs.Declines.{Answer, admitted}
+use Rattle.calls.specs.Calls.{cleared}
 use Rattle.calls.specs.Held.{Book, Held, entered, turned}
 use Rattle.calls.specs.Laying.{Desk, desk, laid, closing, taped, stored_on, put, put_part, room}
 
@@ -29,37 +31,26 @@ pub desk-stored : (c : Code) (h : Held) (ts us : List Track) (e : Book) (g : Lis
     → e ≡ turned h.book → us ≡ taped c 0 (desk h ts) → desk (held e g) us ≡ stored_on c (desk h ts)
 desk-stored c h ts us e g p q r = ap₂ desk (ap₂ held q p) r
 
--- lent memory of the same sizes serves as well
-pub ready-lent : (m n : Lent) (d : Desk) → n.track ≡ m.track → n.bench ≡ m.bench → Ready m d → Ready n d
-ready-lent m n d t b r =
-    let a = r.admitted in
-    record {
-      admitted = record { track = t ∙ a.track; bench = b ∙ a.bench; group = a.group; tap = a.tap; start = a.start; limit = a.limit };
-      tape = r.tape;
-    }
-
 -- and the next one can be laid into as the last
-pub ready-stored : (c : Code) (m : Lent) (h : Held) (ts us : List Track) (e : Book) (g : List ℕ) → g ≡ replicate (length h.group) 0
-    → e ≡ turned h.book → us ≡ taped c 0 (desk h ts) → Ready m (desk h ts) → Ready m (desk (held e g) us)
-ready-stored c m h ts us e g p q r d =
-    subst (Ready m) (sym (desk-stored c h ts us e g p q r)) (
+pub ready-stored : (c : Code) (h : Held) (ts us : List Track) (e : Book) (g : List ℕ) → g ≡ replicate (length h.group) 0
+    → e ≡ turned h.book → us ≡ taped c 0 (desk h ts) → Ready (desk h ts) → Ready (desk (held e g) us)
+ready-stored c h ts us e g p q r d =
+    subst Ready (sym (desk-stored c h ts us e g p q r)) (
     let a = d.admitted in
     record {
-      admitted = record { track = a.track; bench = a.bench; group = length-replicate (length h.group) 0 ∙ a.group; tap = a.tap; start = a.start; limit = a.limit };
+      admitted = record { group = length-replicate (length h.group) 0 ∙ a.group; tap = a.tap; start = a.start; limit = a.limit };
       tape = omega (arith, d.tape, length-taped c 0 (desk h ts));
     })
 
 -- an entry laid changes nothing of that
-pub ready-put : (m : Lent) (k : Kind) (n : ℕ) (bs : List ℕ) (h i : Held) (ts : List Track) → i ≡ laid k n bs h → length i.group ≡ 126632
-    → Ready m (desk h ts) → Ready m (desk i ts)
-ready-put m k n bs h i ts e l d =
+pub ready-put : (k : Kind) (n : ℕ) (bs : List ℕ) (h i : Held) (ts : List Track) → i ≡ laid k n bs h → length i.group ≡ 126632
+    → Ready (desk h ts) → Ready (desk i ts)
+ready-put k n bs h i ts e l d =
     let a = d.admitted in
     let b : i.book ≡ entered k n (length bs) h.book = ap (λ (x : Held). x.book) e in
     let limit : i.book.limit ≡ h.book.limit = ap (λ (x : Book). x.limit) b in
     record {
       admitted = record {
-        track = a.track;
-        bench = a.bench;
         group = l;
         tap = omega (arith, a.tap, ap (λ (x : Book). x.settings.tap) b);
         start = omega (arith, a.start, ap (λ (x : Book). x.settings.start) b);
@@ -115,3 +106,14 @@ group-taped c h ts us last buffer bench g r a size warn fit tap start one there 
     passes : after (lent buffer h.book.settings.tap h.book.settings.start (length g) bench) (reached h.book.number (length ts)) ≡ Ok tt
     passes =
         ap₂ after (cond-true _ _ _ t₁ ∙ (cond-true _ _ _ t₂ ∙ (cond-true _ _ _ t₃ ∙ cond-true _ _ _ t₄))) (cond-true _ _ _ t₅)
+
+-- a call that is admitted is lent memory of the right sizes
+pub admitted-track : (m : Lent) (n : ℕ) (b : Book) → admitted m n b ≡ Ok tt → m.track ≡ 4608
+admitted-track m n b e = search rules
+
+pub admitted-bench : (m : Lent) (n : ℕ) (b : Book) → admitted m n b ≡ Ok tt → m.bench ≡ 138048
+admitted-bench m n b e = search rules
+
+-- what is lent is zero behind a call that is admitted
+pub cleared-lent : (a : Answer) (xs ys : List ℕ) (n : ℕ) → a ≡ Ok tt → length xs ≡ n → length ys ≡ n → (z : List ℕ) → z ≡ replicate (length ys) 0 → z ≡ cleared a xs
+cleared-lent a xs ys n e h l z f = f ∙ ap (λ k. replicate k 0) (l ∙ sym h) ∙ sym (ap (λ a. cleared a xs) e)

@@ -4,7 +4,6 @@ use Rattle.calls.specs.declared.fault.Decline.{Decline}
 use Rattle.calls.specs.Declines.{Answer}
 use Rattle.calls.specs.Held.{Book, Held}
 use Rattle.calls.specs.Laying.{Desk}
-use Rattle.runs.specs.Run.{Lent}
 use Rattle.recorder.specs.declared.ledger.Ledger.{Ledger}
 use Rattle.recorder.specs.declared.open.OpenRecording.{OpenRecording}
 
@@ -20,16 +19,14 @@ abbrev pub decline_of : Answer → Option Decline
 decline_of (Ok u) = None
 decline_of (Err e) = Some e
 
--- what the tests of a call have found of the lent memory and of the recording
-pub record Admitted (m : Lent) (h : Held) : Type 0 where
-  pub track : m.track ≡ 4608
-  pub bench : m.bench ≡ 138048
+-- what the tests of a call have found of the recording
+pub record Admitted (h : Held) : Type 0 where
   pub group : length h.group ≡ 126632
   pub tap : h.book.settings.tap < 32768
   pub start : h.book.settings.start < 32768
   pub limit : 0 < h.book.limit
 
 -- and of the tape: it still has the groups that the recording may have
-pub record Ready (m : Lent) (d : Desk) : Type 0 where
-  pub admitted : Admitted m d.held
+pub record Ready (d : Desk) : Type 0 where
+  pub admitted : Admitted d.held
   pub tape : 46 * d.held.book.limit ≤ length d.tracks

@@ -8,6 +8,7 @@ use crate::ledger::Ledger;
 use calls::fault::Decline;
 use channel::line::LineCode;
 use index::writer::complete_group;
+use layout::sizes::{BENCH, TRACK_WORDS};
 use tape::traits::Recordable;
 use writing::group::write_group;
 
@@ -22,10 +23,10 @@ impl Ledger {
         tape: &mut T,
         code: &C,
         last: u8,
-        bench: &mut [u8],
-        buffer: &mut [u16],
+        bench: &mut [u8; BENCH],
+        buffer: &mut [u16; TRACK_WORDS],
     )
-        requires { Ready (record { track = length buffer.old; bench = length bench.old }) (desk (record { book = book_of self.now; group = group.old }) (T.Playable.tracks tape.old)) }
+        requires { Ready (desk (record { book = book_of self.now; group = group.old }) (T.Playable.tracks tape.old)) }
         ensures group { group.new ≡ replicate (length group.old) 0 }
         ensures tape { T.Playable.tracks tape.new ≡ taped (C.line code.now) last (desk (record { book = book_of self.now; group = group.old }) (T.Playable.tracks tape.old)) }
         ensures kept { T.Recordable.rest tape.new ≡ T.Recordable.rest tape.old }
@@ -48,10 +49,10 @@ impl Ledger {
         group: &mut [u8],
         tape: &mut T,
         code: &C,
-        bench: &mut [u8],
-        buffer: &mut [u16],
+        bench: &mut [u8; BENCH],
+        buffer: &mut [u16; TRACK_WORDS],
     ) -> Result<(), Decline>
-        requires { Admitted (record { track = length buffer.old; bench = length bench.old }) (record { book = book_of self.now; group = group.old }) }
+        requires { Admitted (record { book = book_of self.now; group = group.old }) }
         ensures answer { result ≡ reaches (length (T.Playable.tracks tape.old)) (book_of self.now) }
         ensures tape { T.Playable.tracks tape.new ≡ outcome result (taped (C.line code.now) 1 (desk (record { book = book_of self.now; group = group.old }) (T.Playable.tracks tape.old))) (T.Playable.tracks tape.old) }
         ensures kept { T.Recordable.rest tape.new ≡ T.Recordable.rest tape.old }
@@ -78,6 +79,8 @@ impl Ledger {
         ensures buffer { buffer.new ≡ cleared (admits (record { track = length buffer.old; bench = length bench.old }) (desk (record { book = book_of self.now; group = group.old }) (T.Playable.tracks tape.old))) buffer.old }
     {
         self.test_lent(group.len(), buffer.len(), bench.len())?;
+        let bench = bench.as_mut_array().unwrap();
+        let buffer = buffer.as_mut_array().unwrap();
         let answer = self.store_last(group, tape, code, bench, buffer);
         bench.fill(0);
         buffer.fill(0);

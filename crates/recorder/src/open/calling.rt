@@ -8,6 +8,7 @@ use crate::closed::ClosedRecording;
 use crate::open::OpenRecording;
 use calls::fault::Decline;
 use channel::line::LineCode;
+use layout::sizes::{BENCH, TRACK_WORDS};
 use tape::traits::Recordable;
 
 impl<'a> OpenRecording<'a> {
@@ -29,10 +30,10 @@ impl<'a> OpenRecording<'a> {
         tape: &mut T,
         code: &C,
         bytes: &[u8],
-        bench: &mut [u8],
-        buffer: &mut [u16],
+        bench: &mut [u8; BENCH],
+        buffer: &mut [u16; TRACK_WORDS],
     ) -> Result<(), Decline>
-        requires { Admitted (record { track = length buffer.old; bench = length bench.old }) (held_in self.old) }
+        requires { Admitted (held_in self.old) }
         ensures answer { result ≡ and_then (reaches (length (T.Playable.tracks tape.old)) (book_of self.old.ledger)) (recordable (length bytes.now) (book_of self.old.ledger)) }
         ensures desk { desk (held_in self.new) (T.Playable.tracks tape.new) ≡ outcome result (lay_record (C.line code.now) bytes.now (desk (held_in self.old) (T.Playable.tracks tape.old))) (desk (held_in self.old) (T.Playable.tracks tape.old)) }
         ensures kept { T.Recordable.rest tape.new ≡ T.Recordable.rest tape.old }
@@ -61,6 +62,8 @@ impl<'a> OpenRecording<'a> {
     {
         let group = self.group.len();
         self.ledger.test_lent(group, buffer.len(), bench.len())?;
+        let bench = bench.as_mut_array().unwrap();
+        let buffer = buffer.as_mut_array().unwrap();
         let answer = self.place_record(tape, code, bytes, bench, buffer);
         bench.fill(0);
         buffer.fill(0);
@@ -73,10 +76,10 @@ impl<'a> OpenRecording<'a> {
         tape: &mut T,
         code: &C,
         kind: u8,
-        bench: &mut [u8],
-        buffer: &mut [u16],
+        bench: &mut [u8; BENCH],
+        buffer: &mut [u16; TRACK_WORDS],
     ) -> Result<(), Decline>
-        requires { Admitted (record { track = length buffer.old; bench = length bench.old }) (held_in self.old) }
+        requires { Admitted (held_in self.old) }
         ensures answer { result ≡ and_then (reaches (length (T.Playable.tracks tape.old)) (book_of self.old.ledger)) (markable kind (book_of self.old.ledger)) }
         ensures desk { desk (held_in self.new) (T.Playable.tracks tape.new) ≡ outcome result (lay_mark (C.line code.now) kind (desk (held_in self.old) (T.Playable.tracks tape.old))) (desk (held_in self.old) (T.Playable.tracks tape.old)) }
         ensures kept { T.Recordable.rest tape.new ≡ T.Recordable.rest tape.old }
@@ -105,6 +108,8 @@ impl<'a> OpenRecording<'a> {
     {
         let group = self.group.len();
         self.ledger.test_lent(group, buffer.len(), bench.len())?;
+        let bench = bench.as_mut_array().unwrap();
+        let buffer = buffer.as_mut_array().unwrap();
         let answer = self.place_mark(tape, code, kind, bench, buffer);
         bench.fill(0);
         buffer.fill(0);

@@ -7,6 +7,7 @@ use crate::open::OpenRecording;
 use channel::line::LineCode;
 use index::kind::Kind;
 use index::writer::lay_entry;
+use layout::sizes::{BENCH, TRACK_WORDS};
 use tape::traits::Recordable;
 
 /// The last byte of a group that others follow.
@@ -34,13 +35,13 @@ impl<'a> OpenRecording<'a> {
         &mut self,
         tape: &mut T,
         code: &C,
-        bench: &mut [u8],
-        buffer: &mut [u16],
+        bench: &mut [u8; BENCH],
+        buffer: &mut [u16; TRACK_WORDS],
     )
-        requires ready { Ready (record { track = length buffer.old; bench = length bench.old }) (desk (held_in self.old) (T.Playable.tracks tape.old)) }
+        requires ready { Ready (desk (held_in self.old) (T.Playable.tracks tape.old)) }
         requires next { self.old.ledger.number < self.old.ledger.limit }
         ensures desk { desk (held_in self.new) (T.Playable.tracks tape.new) ≡ stored_on (C.line code.now) (desk (held_in self.old) (T.Playable.tracks tape.old)) }
-        ensures ready { Ready (record { track = length buffer.new; bench = length bench.new }) (desk (held_in self.new) (T.Playable.tracks tape.new)) }
+        ensures ready { Ready (desk (held_in self.new) (T.Playable.tracks tape.new)) }
         ensures kept { T.Recordable.rest tape.new ≡ T.Recordable.rest tape.old }
         ensures same { self.new.group.ghost_name ≡ self.old.group.ghost_name }
     {
@@ -55,13 +56,13 @@ impl<'a> OpenRecording<'a> {
         tape: &mut T,
         code: &C,
         need: usize,
-        bench: &mut [u8],
-        buffer: &mut [u16],
+        bench: &mut [u8; BENCH],
+        buffer: &mut [u16; TRACK_WORDS],
     )
-        requires ready { Ready (record { track = length buffer.old; bench = length bench.old }) (desk (held_in self.old) (T.Playable.tracks tape.old)) }
+        requires ready { Ready (desk (held_in self.old) (T.Playable.tracks tape.old)) }
         requires next { (roomed need (book_of self.old.ledger)).number ≤ self.old.ledger.limit }
         ensures desk { desk (held_in self.new) (T.Playable.tracks tape.new) ≡ room (C.line code.now) need (desk (held_in self.old) (T.Playable.tracks tape.old)) }
-        ensures ready { Ready (record { track = length buffer.new; bench = length bench.new }) (desk (held_in self.new) (T.Playable.tracks tape.new)) }
+        ensures ready { Ready (desk (held_in self.new) (T.Playable.tracks tape.new)) }
         ensures kept { T.Recordable.rest tape.new ≡ T.Recordable.rest tape.old }
         ensures same { self.new.group.ghost_name ≡ self.old.group.ghost_name }
     {
@@ -77,14 +78,14 @@ impl<'a> OpenRecording<'a> {
         code: &C,
         kind: Kind,
         part: &[u8],
-        bench: &mut [u8],
-        buffer: &mut [u16],
+        bench: &mut [u8; BENCH],
+        buffer: &mut [u16; TRACK_WORDS],
     )
-        requires ready { Ready (record { track = length buffer.old; bench = length bench.old }) (desk (held_in self.old) (T.Playable.tracks tape.old)) }
+        requires ready { Ready (desk (held_in self.old) (T.Playable.tracks tape.old)) }
         requires room { self.old.ledger.fill.used + length part.now + 4 * (self.old.ledger.fill.entries + 1) ≤ 126596 }
         requires next { self.old.ledger.number < self.old.ledger.limit }
         ensures desk { desk (held_in self.new) (T.Playable.tracks tape.new) ≡ stored_on (C.line code.now) (put_part kind part.now (desk (held_in self.old) (T.Playable.tracks tape.old))) }
-        ensures ready { Ready (record { track = length buffer.new; bench = length bench.new }) (desk (held_in self.new) (T.Playable.tracks tape.new)) }
+        ensures ready { Ready (desk (held_in self.new) (T.Playable.tracks tape.new)) }
         ensures kept { T.Recordable.rest tape.new ≡ T.Recordable.rest tape.old }
         ensures same { self.new.group.ghost_name ≡ self.old.group.ghost_name }
     {
@@ -98,14 +99,14 @@ impl<'a> OpenRecording<'a> {
         tape: &mut T,
         code: &C,
         kind: u8,
-        bench: &mut [u8],
-        buffer: &mut [u16],
+        bench: &mut [u8; BENCH],
+        buffer: &mut [u16; TRACK_WORDS],
     )
-        requires ready { Ready (record { track = length buffer.old; bench = length bench.old }) (desk (held_in self.old) (T.Playable.tracks tape.old)) }
+        requires ready { Ready (desk (held_in self.old) (T.Playable.tracks tape.old)) }
         requires kind { 1 ≤ kind }
         requires next { mark_ends (book_of self.old.ledger) ≤ self.old.ledger.limit }
         ensures desk { desk (held_in self.new) (T.Playable.tracks tape.new) ≡ lay_mark (C.line code.now) kind (desk (held_in self.old) (T.Playable.tracks tape.old)) }
-        ensures ready { Ready (record { track = length buffer.new; bench = length bench.new }) (desk (held_in self.new) (T.Playable.tracks tape.new)) }
+        ensures ready { Ready (desk (held_in self.new) (T.Playable.tracks tape.new)) }
         ensures kept { T.Recordable.rest tape.new ≡ T.Recordable.rest tape.old }
         ensures same { self.new.group.ghost_name ≡ self.old.group.ghost_name }
     {
@@ -120,16 +121,16 @@ impl<'a> OpenRecording<'a> {
         code: &C,
         total: u32,
         rest: &[u8],
-        bench: &mut [u8],
-        buffer: &mut [u16],
+        bench: &mut [u8; BENCH],
+        buffer: &mut [u16; TRACK_WORDS],
     )
-        requires ready { Ready (record { track = length buffer.old; bench = length bench.old }) (desk (held_in self.old) (T.Playable.tracks tape.old)) }
+        requires ready { Ready (desk (held_in self.old) (T.Playable.tracks tape.old)) }
         requires opening { free (book_of self.old.ledger) ≡ 126596 }
         requires some { 1 ≤ length rest.now }
         requires few { length rest.now ≤ 16777215 }
         requires next { rest_ends self.old.ledger.number (length rest.now) ≤ self.old.ledger.limit }
         ensures desk { desk (held_in self.new) (T.Playable.tracks tape.new) ≡ lay_rest (C.line code.now) (length rest.now) total rest.now (desk (held_in self.old) (T.Playable.tracks tape.old)) }
-        ensures ready { Ready (record { track = length buffer.new; bench = length bench.new }) (desk (held_in self.new) (T.Playable.tracks tape.new)) }
+        ensures ready { Ready (desk (held_in self.new) (T.Playable.tracks tape.new)) }
         ensures kept { T.Recordable.rest tape.new ≡ T.Recordable.rest tape.old }
         ensures same { self.new.group.ghost_name ≡ self.old.group.ghost_name }
     {
@@ -150,15 +151,15 @@ impl<'a> OpenRecording<'a> {
         tape: &mut T,
         code: &C,
         bytes: &[u8],
-        bench: &mut [u8],
-        buffer: &mut [u16],
+        bench: &mut [u8; BENCH],
+        buffer: &mut [u16; TRACK_WORDS],
     )
-        requires ready { Ready (record { track = length buffer.old; bench = length bench.old }) (desk (held_in self.old) (T.Playable.tracks tape.old)) }
+        requires ready { Ready (desk (held_in self.old) (T.Playable.tracks tape.old)) }
         requires some { 1 ≤ length bytes.now }
         requires few { length bytes.now ≤ 16777215 }
         requires next { record_ends (length bytes.now) (book_of self.old.ledger) ≤ self.old.ledger.limit }
         ensures desk { desk (held_in self.new) (T.Playable.tracks tape.new) ≡ lay_record (C.line code.now) bytes.now (desk (held_in self.old) (T.Playable.tracks tape.old)) }
-        ensures ready { Ready (record { track = length buffer.new; bench = length bench.new }) (desk (held_in self.new) (T.Playable.tracks tape.new)) }
+        ensures ready { Ready (desk (held_in self.new) (T.Playable.tracks tape.new)) }
         ensures kept { T.Recordable.rest tape.new ≡ T.Recordable.rest tape.old }
         ensures same { self.new.group.ghost_name ≡ self.old.group.ghost_name }
     {

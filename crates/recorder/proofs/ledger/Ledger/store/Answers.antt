@@ -17,6 +17,6 @@ returns g c =
       tape =
           group-taped k h (g.T.Playable.tracks c.args.tape.now) (g.T.Playable.tracks c.write_group.new.tape) c.args.last (length c.args.buffer.now) (length c.args.bench.now)
           c.complete_group.new.group c.complete_group.result c.write_group.result a.group l.warning l.fits a.tap a.start l.first
-          (omega (arith, c.requires.tape, a.limit, l.within)) a.track a.bench e.answer e.held c.complete_group.auto.group w.answer w.tape;
+          (omega (arith, c.requires.tape, a.limit, l.within)) (omega arith) (omega arith) e.answer e.held c.complete_group.auto.group w.answer w.tape;
       kept = w.kept;
     }

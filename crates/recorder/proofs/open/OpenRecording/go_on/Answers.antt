@@ -1,6 +1,6 @@
 use Rattle.std.proofs.Common.{refl}
 use Rattle.recorder.specs.Views.{held_in}
-use Rattle.recorder.proofs.Desks.{desk-stored, ready-lent, ready-stored}
+use Rattle.recorder.proofs.Desks.{desk-stored, ready-stored}
 use Rattle.recorder.proofs.open.OpenRecording.go_on.Goals as goal
 
 pub returns : goal.returns
@@ -11,7 +11,7 @@ returns g c =
     let s = c.store.ensures in
     record {
       desk = desk-stored k h ts _ _ _ s.group c.turned-self.ensures s.tape;
-      ready = ready-stored k _ h ts _ _ _ s.group c.turned-self.ensures s.tape (ready-lent _ _ _ c.store.auto.buffer c.store.auto.bench c.requires.ready);
+      ready = ready-stored k h ts _ _ _ s.group c.turned-self.ensures s.tape c.requires.ready;
       kept = s.kept;
       same = refl;
     }

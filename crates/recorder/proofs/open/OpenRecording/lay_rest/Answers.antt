@@ -28,7 +28,7 @@ returns g c =
       desk =
           laid-then-total k c.args.total rest (held_in c.loop-rest.self) (g.T.Playable.tracks c.loop-rest.tape) _ _ _ _ c.put.ensures.held r.desk c.put-2.ensures.held
           ∙ (sym (rest-ends k c.args.total rest (desk (held_in c.loop-rest.self) (g.T.Playable.tracks c.loop-rest.tape)) i.0.some (omega (arith, c.loop-rest-test.false, c.free.ensures))) ∙ i.0.laid);
-      ready = ready-put _ Total c.args.total [] _ _ _ c.put-2.ensures.held c.put-2.ensures.size r.ready;
+      ready = ready-put Total c.args.total [] _ _ _ c.put-2.ensures.held c.put-2.ensures.size r.ready;
       kept = r.kept ∙ i.2;
       same = c.put-2.ensures.same ∙ (r.same ∙ (c.put.ensures.same ∙ i.3));
     }

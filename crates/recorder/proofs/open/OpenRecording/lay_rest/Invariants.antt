@@ -8,7 +8,7 @@ abbrev pub invariant-loop-rest : goal.invariant-loop-rest
 invariant-loop-rest g l =
     Resting (g.C.LineCode.line l.code) l.total l.initial.rest l.rest
     (desk (held_in l.initial.self) (g.T.Playable.tracks l.initial.tape)) (desk (held_in l.self) (g.T.Playable.tracks l.tape))
-    × Ready (record { track = length l.buffer; bench = length l.bench }) (desk (held_in l.self) (g.T.Playable.tracks l.tape))
+    × Ready (desk (held_in l.self) (g.T.Playable.tracks l.tape))
     × (g.T.Recordable.rest l.tape ≡ g.T.Recordable.rest l.initial.tape)
     × (l.self.group.ghost_name ≡ l.initial.self.group.ghost_name)
 
