@@ -45,15 +45,12 @@ impl<'a> IndexReader<'a> {
     pub fn new(group: &'a [u8]) -> Option<IndexReader<'a>>
         ensures { MatchOption result (length group.now ≢ 126632) (λ x. (length group.now ≡ 126632) × (cursor_of x ≡ started group.now)) }
     {
-        if group.len() != GROUP_BYTES {
-            return None;
-        }
+        let group = group.as_array()?;
         Some(IndexReader::over(group, u16_at(group, ENTRY_COUNT)))
     }
 
     /// A reader at the first of so many entries.
-    pub(crate) fn over(group: &'a [u8], left: u16) -> IndexReader<'a>
-        requires { length group.now ≡ 126632 }
+    pub(crate) fn over(group: &'a [u8; GROUP_BYTES], left: u16) -> IndexReader<'a>
         ensures { cursor_of result ≡ started_with left group.now }
     {
         IndexReader {

@@ -39,9 +39,13 @@ fn walk_entries(
 }
 
 /// Walks a group of 126,632 bytes that should have this number, from the state and the numbers before it.
-fn walk_group(group: &[u8], number: u32, state: State, counts: Counts) -> Result<Tally, IndexFault>
-    requires size { length group.now ≡ 126632 }
-    requires starts { Starts (opened state counts) 0 }
+fn walk_group(
+    group: &[u8; GROUP_BYTES],
+    number: u32,
+    state: State,
+    counts: Counts,
+) -> Result<Tally, IndexFault>
+    requires { Starts (opened state counts) 0 }
     ensures { result ≡ group_tallied number state counts group.now }
 {
     let table = Table::read(group);
@@ -106,6 +110,7 @@ impl Walk {
         if group.len() != GROUP_BYTES {
             return Err(GroupFault::WrongLength);
         }
+        let group = group.as_array().unwrap();
         let tally = walk_group(group, self.number, self.state, self.counts)?;
         let last = group[LAST_BYTE];
         *self = Walk {

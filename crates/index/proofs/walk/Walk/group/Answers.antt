@@ -12,10 +12,11 @@ use Rattle.index.proofs.walk.Walk.group.Goals as goal
 pub invariant_of-self : goal.invariant_of-self
 invariant_of-self c =
     let w = c.args.self.now in
+    let g = c.unwrap-group.result.now in
     let e = sym c.in_ok-tally.ensures in
-    let l = group-within w.number w.state w.counts c.args.group.now c.in_ok-tally.tally (omega arith) e in
-    let n = group-number w.number w.state w.counts c.args.group.now c.in_ok-tally.tally e in
-    let b = number-below c.args.group.now 126600 (λ k. omega (arith, c.type_inv.group k)) in
+    let l = group-within w.number w.state w.counts g c.in_ok-tally.tally (omega arith) e in
+    let n = group-number w.number w.state w.counts g c.in_ok-tally.tally e in
+    let b = number-below g 126600 (λ k. search rules) in
     record {
       counted = omega (arith, n, b);
       sum = omega (arith, l.sum, w.sum);

@@ -24,8 +24,8 @@ walk_entries-requires c =
     let f = table-few c.args.number c.read-table.result tt (sym c.in_ok-check.ensures) in
     let e = c.over-reader.ensures in
     record {
-      sound = subst Sound (sym e) (started-sound c.read-table.result.entries c.args.group.now c.requires.size f);
-      starts = subst (λ (x : Cursor). Starts (opened c.args.state c.args.counts) x.place) (sym e) c.requires.starts;
+      sound = subst Sound (sym e) (started-sound c.read-table.result.entries c.args.group.now (omega arith) f);
+      starts = subst (λ (x : Cursor). Starts (opened c.args.state c.args.counts) x.place) (sym e) c.requires;
     }
 
 pub returns-in_err-tally : goal.returns-in_err-tally
@@ -33,7 +33,7 @@ returns-in_err-tally c =
     let p = err_from_is_err_and c.from_residual-in_err-tally.result c.from_residual-in_err-tally.ensures.1 in
     let g = c.args.group.now in
     let t = c.read-table.result in
-    let e = entries-walked c.args.number c.args.state c.args.counts g t (cursor_of c.over-reader.result) _ c.requires.size c.read-table.ensures c.over-reader.ensures c.in_err-tally.ensures in
+    let e = entries-walked c.args.number c.args.state c.args.counts g t (cursor_of c.over-reader.result) _ (omega arith) c.read-table.ensures c.over-reader.ensures c.in_err-tally.ensures in
     p.1 ∙ (ap Err p.2
     ∙ (ap (λ (x : Result Tally IndexFault). next x (λ u. totals_checked (table_in g) u)) e
     ∙ table-right c.args.number c.args.state c.args.counts g t tt c.read-table.ensures c.in_ok-check.ensures))
@@ -42,7 +42,7 @@ pub returns : goal.returns
 returns c =
     let g = c.args.group.now in
     let t = c.read-table.result in
-    let e = entries-walked c.args.number c.args.state c.args.counts g t (cursor_of c.over-reader.result) _ c.requires.size c.read-table.ensures c.over-reader.ensures c.in_ok-tally.ensures in
+    let e = entries-walked c.args.number c.args.state c.args.counts g t (cursor_of c.over-reader.result) _ (omega arith) c.read-table.ensures c.over-reader.ensures c.in_ok-tally.ensures in
     c.settle.ensures
     ∙ (ap (λ (x : Table). totals_checked x c.in_ok-tally.tally) c.read-table.ensures
     ∙ (ap (λ (x : Result Tally IndexFault). next x (λ u. totals_checked (table_in g) u)) e
