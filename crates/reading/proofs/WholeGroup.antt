@@ -1,18 +1,16 @@
 -- What was found in memory is what the tracks read as.
-use Rattle.std.proofs.Common.{◌≡◌, ℕ, zero, suc, ◌+◌, ◌-◌, ◌*◌, ◌/◌, ◌%◌, ◌<◌, ◌≤◌, Bool, true, false, cond, ◌&&◌, eqb, List, [], ◌∷◌, ◌++◌, length, get_or, take, drop, set, replicate, Some, None, Option, sym, refl, ap, ◌∙◌, subst, ap₂, inl, inr, arith, length-set, length-take-le, get_or-drop, get_or-set_other, get_or-take, get_or-set_same}
+use Rattle.std.proofs.Common.{◌≡◌, ℕ, zero, suc, ◌+◌, ◌*◌, ◌/◌, ◌%◌, ◌<◌, ◌≤◌, Bool, true, false, cond, ◌&&◌, eqb, List, [], ◌∷◌, ◌++◌, length, get_or, take, drop, set, replicate, Some, None, Option, sym, refl, ap, ◌∙◌, subst, ap₂, inl, inr, arith, length-set, get_or-drop, get_or-set_other, get_or-take, get_or-set_same}
 use lib.ListN.{length-replicate, get_or-replicate}
 use borrow.Rule.Slice.PartMut.{put_mid}
 use Rattle.layout.proofs.Parts.{mid-before, mid-in, mid-after}
 use Rattle.std.proofs.lemmas.List.FromFn.{fill_by_all}
-use Rattle.std.proofs.lemmas.List.{get_or_append_left, get_or-append_right}
-use Rattle.std.proofs.lemmas.Bool.{cases_eq, cases_lt, eq-eqb, cond_both}
+use Rattle.std.proofs.lemmas.Bool.{cases_eq, cases_lt, eq-eqb}
 use Rattle.layout.specs.Counts.{count, which, listed}
 use Rattle.layout.specs.Randomizer.{randomized}
 use Rattle.layout.specs.Placing.{number_at, is_data}
 use Rattle.layout.specs.Reading.{filling, byte_at, Outcome, read, lost}
 use Rattle.layout.specs.Group.{sign_d, number_d, joined, first_from, is_gone, is_none, numbered, whole, third, unchecked, c3_filled, subgroup, third_lost, first_bad, judged_bytes, judged_tracks, gathered}
 use Rattle.layout.proofs.Counts.{listed_same, length-which}
-use Rattle.losses.specs.declared.sheet.Cause.TheVariants.{Blank, TooManyLost, NoFilling, WrongHeader}
 use Rattle.losses.specs.declared.sheet.LossRow.{LossRow}
 use Rattle.losses.specs.Losses.{is_loss, no_loss, loss_row, row_after}
 use Rattle.reading.specs.Groups.{gone_in, third_in, sheet_of, filling_in, bad_in, place_in, Filled, group_in, Holds, found_bytes, found_tracks, found_in}
@@ -172,20 +170,12 @@ past [] q l = refl
 past (u ∷ us) zero l = absurd (omega arith)
 past (u ∷ us) (suc q) l = past us q (omega arith)
 
--- a part of a list of zeros
-pub zero-front : (xs ys : List ℕ) (n : ℕ) → replicate n 0 ≡ xs ++ ys → (p : ℕ) → get_or xs p 0 ≡ 0
-zero-front xs ys n e p =
-    elim (cases_lt p (length xs)) [
-      | inl l ↦ sym (get_or_append_left xs ys 0 p l) ∙ ap (λ z. get_or z p 0) (sym e) ∙ naught n p
-      | inr l ↦ past xs p l
+pub zero-all : (n p : ℕ) → ◌≡◌ {A = ℕ} (get_or (replicate n 0) p 0) 0
+zero-all n p =
+    elim (cases_lt p n) [
+      | inl l ↦ get_or-replicate n p 0 0 l
+      | inr l ↦ past (replicate n 0) p (omega (arith, length-replicate {A = ℕ} n 0))
     ]
-  where
-    naught : (n p : ℕ) → ◌≡◌ {A = ℕ} (get_or (replicate n 0) p 0) 0
-    naught n p =
-        elim (cases_lt p n) [
-          | inl l ↦ get_or-replicate n p 0 0 l
-          | inr l ↦ past (replicate n 0) p (omega (arith, length-replicate {A = ℕ} n 0))
-        ]
 
 pub holds_more : (o : ℕ → Outcome) (rows ys : List ℕ) (sheet : List LossRow) (t n e : ℕ) (r : LossRow) → t < 46 → length rows ≡ 133952 → n ≡ 2912 → Holds o rows sheet t → r ≡ loss_row (o t)
     → length ys ≡ 2912 → ys ≡ row_after (o t) (take e (drop (2912 * t) rows)) → Holds o (put_mid (2912 * t) n rows ys) (set sheet t r) (t + 1)

@@ -3,6 +3,7 @@ ghost use Rattle.layout.specs.Reading.{checks};
 ghost use Rattle.reed_solomon.specs.Interleaves.{interleaved};
 
 use crate::lost_words::LostWords;
+use layout::sizes::ARRAY;
 use reed_solomon::codes::C1;
 use reed_solomon::interleaved::Interleaving;
 
@@ -10,8 +11,7 @@ use reed_solomon::interleaved::Interleaving;
 const STRIDE: usize = 2;
 
 /// Marks the C1 words that do not check.
-pub(crate) fn mark_unchecked(array: &[u8], lost: &mut LostWords)
-    requires { length array.now ≡ 4096 }
+pub(crate) fn mark_unchecked(array: &[u8; ARRAY], lost: &mut LostWords)
     ensures { (k : ℕ) → k < 128 → slice_index_or lost.new.marks k false ≡ (slice_index_or lost.old.marks k false || not (checks 4 (interleaved array.now (64 * (k / 2) + k % 2) 2 32))) }
 {
     for (k, mark) in lost.marks.iter_mut().enumerate() {

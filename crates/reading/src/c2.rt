@@ -8,6 +8,7 @@ use crate::lost_words::LostWords;
 use crate::passing::passing;
 use crate::recovery::recover;
 use arrayvec::ArrayVec;
+use layout::sizes::ARRAY;
 use losses::sheet::{Cause, LossRow, NO_LOSS};
 use reed_solomon::codes::C2;
 use reed_solomon::interleaved::Interleaving;
@@ -27,8 +28,7 @@ fn erasures(lost: &LostWords, m: usize, n: usize) -> ArrayVec<usize, BYTES>
 }
 
 /// Fills C2 word (m, n) in the array; the cause if it cannot be filled.
-fn fill_word(array: &mut [u8], lost: &LostWords, m: usize, n: usize) -> Option<Cause>
-    requires array_len { length array.old ≡ 4096 }
+fn fill_word(array: &mut [u8; ARRAY], lost: &LostWords, m: usize, n: usize) -> Option<Cause>
     requires m_bound { m < 4 }
     requires n_bound { n < 32 }
     ensures { Corrected lost.now.marks array.old array.new m n (cause_number result) }
@@ -56,8 +56,7 @@ fn width(m: usize) -> usize
 }
 
 /// Fills the C2 words in order of m, then n; the first that cannot be filled, with its cause.
-pub(crate) fn correct(array: &mut [u8], lost: &LostWords) -> LossRow
-    requires { length array.old ≡ 4096 }
+pub(crate) fn correct(array: &mut [u8; ARRAY], lost: &LostWords) -> LossRow
     ensures { Found (erased_in lost.now.marks) (array_in array.old) array.new (cause_number result.cause, result.m, result.n) }
 {
     let mut found = NO_LOSS;

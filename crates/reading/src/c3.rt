@@ -7,7 +7,7 @@ use crate::passing::passing;
 use crate::recovery::recover;
 use arrayvec::ArrayVec;
 use layout::row::data_number_at;
-use layout::sizes::{ARRAY, ROW, TRACKS};
+use layout::sizes::{ARRAY, ROW, ROWS, TRACKS};
 use losses::sheet::LossSheet;
 use reed_solomon::codes::C3;
 use reed_solomon::fault::Unfillable;
@@ -37,8 +37,7 @@ pub(crate) fn lost_tracks(sheet: &LossSheet) -> ArrayVec<usize, TRACKS>
 }
 
 /// Fills the C3 word of place `p`, if D bytes stand there.
-fn fill_place(rows: &mut [u8], lost: &[usize], p: usize) -> Result<(), Unfillable>
-    requires size { length rows.old ≡ 133952 }
+fn fill_place(rows: &mut [u8; ROWS], lost: &[usize], p: usize) -> Result<(), Unfillable>
     requires places { Places 46 lost.now }
     requires few { length lost.now ≤ 2 }
     requires place { p < 4096 }
@@ -54,8 +53,7 @@ fn fill_place(rows: &mut [u8], lost: &[usize], p: usize) -> Result<(), Unfillabl
 }
 
 /// Fills the C3 words in the order of their blocks and serials; the first place whose word has no filling.
-pub(crate) fn fill_words(rows: &mut [u8], lost: &[usize]) -> Option<usize>
-    requires size { length rows.old ≡ 133952 }
+pub(crate) fn fill_words(rows: &mut [u8; ROWS], lost: &[usize]) -> Option<usize>
     requires places { Places 46 lost.now }
     requires few { length lost.now ≤ 2 }
     ensures { Filled lost.now rows.old rows.new result }

@@ -6,7 +6,7 @@ ghost use Rattle.reading.specs.Arrays.{at, Taken};
 use crate::lost_words::LostWords;
 use channel::line::LineCode;
 use layout::address::Address;
-use layout::sizes::{BLOCK_BYTES, BLOCK_WORDS, BLOCKS};
+use layout::sizes::{ARRAY, BLOCK_BYTES, BLOCK_WORDS, BLOCKS, TRACK_WORDS};
 use layout::sync::is_sync;
 
 /// Whether a word gave this byte.
@@ -17,8 +17,12 @@ fn gives(byte: Option<u8>, x: u8) -> bool
 }
 
 /// Whether block `b` is lost: its sync word or a label is not the expected one.
-fn block_lost<C: LineCode>(code: &C, words: &[u16], position: Address, b: usize) -> bool
-    requires words_len { length words.now ≡ 4608 }
+fn block_lost<C: LineCode>(
+    code: &C,
+    words: &[u16; TRACK_WORDS],
+    position: Address,
+    b: usize,
+) -> bool
     requires b_bound { b < 128 }
     ensures { result ≡ block_lost (C.line code.now) (address position.group position.track) (at words.now) b }
 {
@@ -36,14 +40,12 @@ fn block_lost<C: LineCode>(code: &C, words: &[u16], position: Address, b: usize)
 /// is.
 fn take_block<C: LineCode>(
     code: &C,
-    words: &[u16],
+    words: &[u16; TRACK_WORDS],
     position: Address,
     b: usize,
-    array: &mut [u8],
+    array: &mut [u8; ARRAY],
     lost: &mut LostWords,
 )
-    requires words { length words.now ≡ 4608 }
-    requires array { length array.old ≡ 4096 }
     requires block { b < 128 }
     requires so_far { Taken (C.line code.now) (address position.group position.track) (at words.now) array.old lost.old.marks (32 * b) }
     ensures { Taken (C.line code.now) (address position.group position.track) (at words.now) array.new lost.new.marks (32 * (b + 1)) }
@@ -60,13 +62,11 @@ fn take_block<C: LineCode>(
 /// Takes the bytes of a track into the array, and marks the C1 words that have a lost byte.
 pub(crate) fn take_bytes<C: LineCode>(
     code: &C,
-    words: &[u16],
+    words: &[u16; TRACK_WORDS],
     position: Address,
-    array: &mut [u8],
+    array: &mut [u8; ARRAY],
     lost: &mut LostWords,
 )
-    requires words { length words.now ≡ 4608 }
-    requires array { length array.old ≡ 4096 }
     requires so_far { Taken (C.line code.now) (address position.group position.track) (at words.now) array.old lost.old.marks 0 }
     ensures { Taken (C.line code.now) (address position.group position.track) (at words.now) array.new lost.new.marks 4096 }
 {

@@ -1,4 +1,4 @@
-ghost use Rattle.std.specs.Prelude.{◌≡◌, ℕ, ◌+◌, ◌-◌, ◌*◌, ◌<◌, ◌≤◌, length, replicate, slice_index};
+ghost use Rattle.std.specs.Prelude.{◌≡◌, ℕ, ◌+◌, ◌-◌, ◌*◌, ◌<◌, ◌≤◌, None, length, replicate, slice_index};
 ghost use Rattle.losses.specs.Faults.{unless, declined_or, size_decline, group_decline};
 ghost use Rattle.reading.specs.Groups.{findings, outcomes, found, Holds, found_in, answer_of, group_after};
 ghost use Rattle.losses.specs.Losses.{loss_row, row_after};
@@ -11,7 +11,7 @@ use layout::address::{Address, has_group};
 use layout::lent::check_lent;
 use layout::register::Register;
 use layout::settings::Settings;
-use layout::sizes::{BLOCK_BYTES, ROW, ROWS, TRACKS};
+use layout::sizes::{ARRAY, BENCH, BLOCK_BYTES, GROUP, ROW, ROWS, TRACK_WORDS, TRACKS};
 use losses::fault::ReadFault;
 use losses::sheet::{Cause, LossRow, LossSheet};
 use tape::traits::Playable;
@@ -21,21 +21,19 @@ fn read_one<T: Playable, C: LineCode>(
     tape: &T,
     code: &C,
     position: Address,
-    buffer: &mut [u16],
-    array: &mut [u8],
+    buffer: &mut [u16; TRACK_WORDS],
+    array: &mut [u8; ARRAY],
     row: &mut [u8],
 ) -> LossRow
     requires group { 0 < position.group }
     requires tape { 46 * position.group ≤ length (T.Playable.tracks tape.now) }
-    requires buffer { length buffer.old ≡ 4608 }
-    requires array { length array.old ≡ 4096 }
     requires row { length row.old ≡ 2912 }
     ensures finding { result ≡ loss_row (outcomes (C.line code.now) position.group (T.Playable.tracks tape.now) position.track) }
     ensures bytes { row.new ≡ row_after (outcomes (C.line code.now) position.group (T.Playable.tracks tape.now) position.track) row.old }
 {
     let first = TRACKS * (position.group as usize - 1);
     match tape.fetch(first + position.track, buffer) {
-        Ok(()) => read_words(code, buffer, position, array, row),
+        Ok(()) => read_words(code, buffer, position, array, row.as_mut_array().unwrap()),
         Err(_) => LossRow::from(Cause::Blank),
     }
 }
@@ -45,16 +43,13 @@ fn read_tracks<T: Playable, C: LineCode>(
     tape: &T,
     code: &C,
     number: u16,
-    buffer: &mut [u16],
-    array: &mut [u8],
-    rows: &mut [u8],
+    buffer: &mut [u16; TRACK_WORDS],
+    array: &mut [u8; ARRAY],
+    rows: &mut [u8; ROWS],
     sheet: &mut LossSheet,
 )
     requires group { 0 < number }
     requires tape { 46 * number ≤ length (T.Playable.tracks tape.now) }
-    requires buffer { length buffer.old ≡ 4608 }
-    requires array { length array.old ≡ 4096 }
-    requires rows { length rows.old ≡ 133952 }
     requires zero { (p : ℕ) → slice_index rows.old p ≡ 0 }
     ensures { Holds (outcomes (C.line code.now) number (T.Playable.tracks tape.now)) rows.new sheet.new.rows 46 }
 {
@@ -74,11 +69,9 @@ fn read_tracks<T: Playable, C: LineCode>(
 fn judge_group(
     register: Register,
     sheet: &LossSheet,
-    rows: &mut [u8],
-    group: &mut [u8],
+    rows: &mut [u8; ROWS],
+    group: &mut [u8; GROUP],
 ) -> Result<(), ReadFault>
-    requires rows { length rows.old ≡ 133952 }
-    requires group { length group.old ≡ 126632 }
     ensures answer { result ≡ answer_of sheet.now.rows (found_in register.tap register.bits sheet.now.rows rows.old) }
     ensures bytes { group.new ≡ group_after (found_in register.tap register.bits sheet.now.rows rows.old) group.old }
 {
@@ -105,24 +98,43 @@ fn read_present<T: Playable, C: LineCode>(
     code: &C,
     register: Register,
     number: u16,
-    bench: &mut [u8],
-    buffer: &mut [u16],
-    group: &mut [u8],
+    bench: &mut [u8; BENCH],
+    buffer: &mut [u16; TRACK_WORDS],
+    group: &mut [u8; GROUP],
     sheet: &mut LossSheet,
 ) -> Result<(), ReadFault>
     requires present { 0 < number }
     requires tape { 46 * number ≤ length (T.Playable.tracks tape.now) }
-    requires buffer { length buffer.old ≡ 4608 }
-    requires bench { length bench.old ≡ 138048 }
-    requires group { length group.old ≡ 126632 }
     ensures answer { result ≡ answer_of (findings (C.line code.now) number (T.Playable.tracks tape.now)) (found (C.line code.now) register.tap register.bits number (T.Playable.tracks tape.now)) }
     ensures bytes { group.new ≡ group_after (found (C.line code.now) register.tap register.bits number (T.Playable.tracks tape.now)) group.old }
     ensures findings { sheet.new.rows ≡ findings (C.line code.now) number (T.Playable.tracks tape.now) }
 {
-    bench.fill(0);
-    let (rows, array) = bench.split_at_mut(ROWS);
+    let (rows, rest) = bench.split_first_chunk_mut().unwrap();
+    let array = rest.as_mut_array().unwrap();
+    rows.fill(0);
     read_tracks(tape, code, number, buffer, array, rows, sheet);
     judge_group(register, sheet, rows, group)
+}
+
+/// Reads a group if the tape has it; bench and track buffer are left with anything.
+fn read_if_present<T: Playable, C: LineCode>(
+    tape: &T,
+    code: &C,
+    register: Register,
+    number: u16,
+    bench: &mut [u8; BENCH],
+    buffer: &mut [u16; TRACK_WORDS],
+    group: &mut [u8; GROUP],
+    sheet: &mut LossSheet,
+) -> Result<(), ReadFault>
+    ensures answer { result ≡ declined_or (group_decline None number (length (T.Playable.tracks tape.now))) (answer_of (findings (C.line code.now) number (T.Playable.tracks tape.now)) (found (C.line code.now) register.tap register.bits number (T.Playable.tracks tape.now))) }
+    ensures bytes { group.new ≡ unless (group_decline None number (length (T.Playable.tracks tape.now))) (group_after (found (C.line code.now) register.tap register.bits number (T.Playable.tracks tape.now)) group.old) group.old }
+    ensures findings { sheet.new.rows ≡ unless (group_decline None number (length (T.Playable.tracks tape.now))) (findings (C.line code.now) number (T.Playable.tracks tape.now)) sheet.old.rows }
+{
+    if !has_group(tape.length(), number) {
+        return Err(ReadFault::NoGroup);
+    }
+    read_present(tape, code, register, number, bench, buffer, group, sheet)
 }
 
 /// Reads a group into the group buffer, by way of bench and track buffer, and the findings on its 46 tracks into the
@@ -145,11 +157,10 @@ pub fn read_group<T: Playable, C: LineCode>(
     ensures buffer_zero { buffer.new ≡ unless (size_decline (length buffer.old) settings.tap settings.start (length group.old) (length bench.old)) (replicate (length buffer.old) 0) buffer.old }
 {
     let register = check_lent(buffer.len(), settings, group.len(), bench.len())?;
-    let answer = if has_group(tape.length(), number) {
-        read_present(tape, code, register, number, bench, buffer, group, sheet)
-    } else {
-        Err(ReadFault::NoGroup)
-    };
+    let group = group.as_mut_array().unwrap();
+    let bench = bench.as_mut_array().unwrap();
+    let buffer = buffer.as_mut_array().unwrap();
+    let answer = read_if_present(tape, code, register, number, bench, buffer, group, sheet);
     bench.fill(0);
     buffer.fill(0);
     answer

@@ -3,15 +3,13 @@ ghost use Rattle.reading.specs.Groups.{Spread, group_in};
 
 use layout::register::Register;
 use layout::row::data_place;
-use layout::sizes::{ROW, SUB_GROUP};
+use layout::sizes::{GROUP, ROW, ROWS, SUB_GROUP};
 
 /// The sub-groups of a group.
 const SUB_GROUPS: usize = 22;
 
 /// Puts byte `d` of each sub-group, XORed with the mask, from the rows into the group.
-fn put_bytes(rows: &[u8], d: usize, mask: u8, group: &mut [u8])
-    requires rows_len { length rows.now ≡ 133952 }
-    requires group_len { length group.old ≡ 126632 }
+fn put_bytes(rows: &[u8; ROWS], d: usize, mask: u8, group: &mut [u8; GROUP])
     requires d_bound { d < 5756 }
     ensures { Spread rows.now group.old group.new d mask 22 }
 {
@@ -23,9 +21,7 @@ fn put_bytes(rows: &[u8], d: usize, mask: u8, group: &mut [u8])
 
 /// Takes the bytes of the group from the rows: the D bytes, randomized again. The register is set anew for each
 /// sub-group, so each of its bytes serves all of them.
-pub(crate) fn take_group(rows: &[u8], mut register: Register, group: &mut [u8])
-    requires rows_len { length rows.now ≡ 133952 }
-    requires group_len { length group.old ≡ 126632 }
+pub(crate) fn take_group(rows: &[u8; ROWS], mut register: Register, group: &mut [u8; GROUP])
     ensures { group.new ≡ group_in register.tap register.bits rows.now }
 {
     for d in 0..SUB_GROUP {

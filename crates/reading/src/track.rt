@@ -12,15 +12,13 @@ use crate::{c1, c2, decoding};
 use channel::line::LineCode;
 use layout::address::Address;
 use layout::row::place_of;
-use layout::sizes::{ARRAY, ROW, TRACKS};
+use layout::sizes::{ARRAY, ROW, TRACK_WORDS, TRACKS};
 use losses::fault::TrackFault;
 use losses::sheet::{Cause, LossRow, NO_LOSS};
 use tape::traits::WORDS;
 
 /// Takes the bytes at the occupied places.
-fn take_row(array: &[u8], out: &mut [u8])
-    requires array_len { length array.now ≡ 4096 }
-    requires out_len { length out.old ≡ 2912 }
+fn take_row(array: &[u8; ARRAY], out: &mut [u8; ROW])
     ensures { out.new ≡ row_of (array_in array.now) }
 {
     for (q, byte) in out.iter_mut().enumerate() {
@@ -29,17 +27,19 @@ fn take_row(array: &[u8], out: &mut [u8])
 }
 
 /// Whether the two header bytes are those of the track's frame.
-fn is_headed(array: &[u8], position: Address) -> bool
-    requires { length array.now ≡ 4096 }
+fn is_headed(array: &[u8; ARRAY], position: Address) -> bool
     ensures { result ≡ (slice_index array.now 0 == frame_byte (position.track / 2 + 1) && slice_index array.now 2 == 0) }
 {
     array[0] == position.frame_byte() && array[2] == 0
 }
 
 /// Judges a track, and leaves its corrected bytes in the array if it was read.
-fn judge<C: LineCode>(code: &C, words: &[u16], position: Address, array: &mut [u8]) -> LossRow
-    requires words { length words.now ≡ 4608 }
-    requires array { length array.old ≡ 4096 }
+fn judge<C: LineCode>(
+    code: &C,
+    words: &[u16; TRACK_WORDS],
+    position: Address,
+    array: &mut [u8; ARRAY],
+) -> LossRow
     ensures { Judged (reading (C.line code.now) (address position.group position.track) (at words.now)) array.new result }
 {
     let mut lost = LostWords::new();
@@ -55,17 +55,14 @@ fn judge<C: LineCode>(code: &C, words: &[u16], position: Address, array: &mut [u
     NO_LOSS
 }
 
-/// Reads a track into the row, for callers that know the sizes; the array is left with anything.
+/// Reads a track into the row; the array is left with anything.
 pub(crate) fn read_words<C: LineCode>(
     code: &C,
-    words: &[u16],
+    words: &[u16; TRACK_WORDS],
     position: Address,
-    array: &mut [u8],
-    row: &mut [u8],
+    array: &mut [u8; ARRAY],
+    row: &mut [u8; ROW],
 ) -> LossRow
-    requires words { length words.now ≡ 4608 }
-    requires array { length array.old ≡ 4096 }
-    requires row { length row.old ≡ 2912 }
     ensures finding { result ≡ loss_row (reading (C.line code.now) (address position.group position.track) (at words.now)) }
     ensures bytes { row.new ≡ row_after (reading (C.line code.now) (address position.group position.track) (at words.now)) row.old }
 {
@@ -101,6 +98,9 @@ pub fn read_track<C: LineCode>(
         return Err(TrackFault::NoTrack);
     }
     let position = Address { group, track: t };
+    let words = words.as_array().unwrap();
+    let array = array.as_mut_array().unwrap();
+    let row = row.as_mut_array().unwrap();
     let finding = read_words(code, words, position, array, row);
     array.fill(0);
     Ok(finding)

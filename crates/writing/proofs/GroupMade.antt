@@ -1,6 +1,6 @@
--- The tracks of the rows on the bench are those of the group.
-use Rattle.std.proofs.Common.{◌≡◌, ℕ, ◌+◌, ◌*◌, ◌<◌, List, ◌++◌, length, get_or, drop, sym, ap, ◌∙◌, arith, length-drop, length-take}
-use Rattle.std.proofs.lemmas.List.{get_or-take, get_or-drop, get_or_append_left}
+-- The tracks of the rows are those of the group.
+use Rattle.std.proofs.Common.{◌≡◌, ℕ, ◌*◌, ◌<◌, List, length, drop, sym, ap, ◌∙◌, arith, length-drop, length-take}
+use Rattle.std.proofs.lemmas.List.{get_or-take, get_or-drop}
 use Rattle.tape.specs.Tape.{Track}
 use Rattle.layout.specs.Counts.{listed}
 use Rattle.layout.specs.Group.{address}
@@ -12,15 +12,12 @@ use Rattle.writing.specs.Groups.{group_track, with_tracks, with_group}
 use Rattle.writing.specs.Rows.{HasRows, row_in}
 use Rattle.writing.proofs.TapeSteps.{with-same}
 
-module _ (tap start : ℕ) (group bench rows rest : List ℕ) (split : bench ≡ rows ++ rest) (size : length rows ≡ 133952) (has : HasRows tap start group bench) where
+module _ (tap start : ℕ) (group rows : List ℕ) (size : length rows ≡ 133952) (has : HasRows tap start group rows) where
   row_is : (t : ℕ) → t < 46 → listed (byte_of tap start group t) 2912 ≡ row_in rows t
   row_is t h =
       let l : length (row_in rows t) ≡ 2912 = simp (length-take, length-drop) (omega arith) in
       listed-is (byte_of tap start group t) (row_in rows t) 2912 l
-      (λ q k.
-      let at : get_or (row_in rows t) q 0 ≡ get_or rows (2912 * t + q) 0 = get_or-take 2912 (drop (2912 * t) rows) q 0 k ∙ get_or-drop (2912 * t) rows q 0 in
-      let p : 2912 * t + q < length rows = omega arith in
-      sym (has t q h k) ∙ ap (λ z. get_or z (2912 * t + q) 0) split ∙ get_or_append_left rows rest 0 (2912 * t + q) p ∙ sym at)
+      (λ q k. sym (has t q h k) ∙ sym (get_or-take 2912 (drop (2912 * t) rows) q 0 k ∙ get_or-drop (2912 * t) rows q 0))
 
   pub group-made : (c : Code) (g : ℕ) (ts us : List Track) → us ≡ with_tracks (λ t. track c (address g t) (array_of (row_in rows t))) g ts → us ≡ with_group c tap start g group ts
   group-made c g ts us e =

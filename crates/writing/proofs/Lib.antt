@@ -1,3 +1,4 @@
+pub mod Chunks
 pub mod GroupMade
 pub mod Laid
 pub mod Made

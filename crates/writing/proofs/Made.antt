@@ -1,9 +1,7 @@
 -- The array that the passes make is the array of the row.
-use Rattle.std.proofs.Common.{◌≡◌, ℕ, ◌+◌, ◌*◌, ◌/◌, ◌%◌, ◌<◌, Bool, true, false, cond, List, length, get_or, refl, ap, ◌∙◌, ap₂, arith}
-use Rattle.std.proofs.lemmas.List.{get_or_past}
+use Rattle.std.proofs.Common.{◌≡◌, ℕ, ◌+◌, ◌*◌, ◌/◌, ◌%◌, ◌<◌, List, get_or, ap, ◌∙◌, ap₂, arith}
 use Rattle.reed_solomon.specs.Interleaves.{interleaved}
 use Rattle.layout.specs.Counts.{listed}
-use Rattle.layout.specs.Placing.{is_occupied, number_at}
 use Rattle.layout.specs.Words.{Array, c1, c2, c1_block, c1_serial}
 use Rattle.layout.specs.Reading.{filling, byte_at}
 use Rattle.layout.specs.Writing.{c1_checks, c2_checks, laid, with_c2, with_c1, array_of}

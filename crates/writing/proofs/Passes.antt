@@ -1,5 +1,5 @@
 -- A pass over memory that fills word after word, where each place is in one word.
-use Rattle.std.proofs.Common.{◌≡◌, ℕ, ◌+◌, ◌*◌, ◌/◌, ◌%◌, ◌<◌, ◌≤◌, Bool, true, false, cond, ◌&&◌, ltb, leb, ◌≢◌, ◌⊎◌, List, length, get_or, Some, Ok, Err, Result, OnOk, OnErr, sym, refl, ap, ◌∙◌, subst, inl, inr, zero-add, arith, lit≤}
+use Rattle.std.proofs.Common.{◌≡◌, ℕ, ◌+◌, ◌*◌, ◌/◌, ◌%◌, ◌<◌, ◌≤◌, cond, ◌&&◌, ltb, leb, ◌≢◌, ◌⊎◌, List, length, get_or, Some, Ok, Err, Result, OnOk, OnErr, sym, refl, ap, ◌∙◌, subst, inl, inr, zero-add, arith, lit≤}
 use native.Mathlib.Decide.{ℕ_discrete}
 use Rattle.std.proofs.lemmas.List.FromFn.{length-map-range_with_len, get_or-map-range_with_len}
 use Rattle.std.proofs.lemmas.List.{ext_get_or}

@@ -1,7 +1,6 @@
 -- An array of 128 blocks of 32 bytes in memory, and the passes that put check bytes into it.
-use Rattle.std.specs.Prelude.{ℕ, ◌+◌, ◌*◌, ◌/◌, ◌%◌, cond, List, slice_index}
+use Rattle.std.specs.Prelude.{ℕ, ◌+◌, ◌*◌, ◌/◌, ◌%◌, List, slice_index}
 use Rattle.reed_solomon.specs.Interleaves.{interleaved}
-use Rattle.layout.specs.Placing.{number_at, is_occupied}
 use Rattle.layout.specs.Words.{Array}
 use Rattle.layout.specs.Reading.{filling, byte_at}
 use Rattle.layout.specs.Writing.{c1_checks, c2_checks}

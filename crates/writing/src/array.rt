@@ -3,6 +3,7 @@ ghost use Rattle.layout.specs.Writing.{laid, array_of};
 ghost use Rattle.writing.specs.Arrays.{array_in, c2_filled, c1_filled};
 
 use crate::places::Places;
+use layout::sizes::{ARRAY, ROW};
 use reed_solomon::codes::{C1, C2};
 use reed_solomon::interleaved::Interleaving;
 
@@ -12,37 +13,35 @@ const C2_CHECKS: [usize; 6] = [18, 17, 16, 15, 14, 13];
 const C1_CHECKS: [usize; 4] = [31, 30, 29, 28];
 
 /// Gives every C2 word of the array its check bytes.
-fn put_c2(array: &mut [u8])
-    requires { length array.old ≡ 4096 }
+fn put_c2(array: &mut [u8; ARRAY])
     ensures { (p : ℕ) → p < 4096 → slice_index array.new p ≡ c2_filled array.old p }
 {
+    let bytes: &mut [u8] = array;
     for c in 0..128 {
         let at = Interleaving {
             start: c,
             stride: 128,
         };
-        let _ = C2.fill_interleaved(array, at, &C2_CHECKS);
+        let _ = C2.fill_interleaved(bytes, at, &C2_CHECKS);
     }
 }
 
 /// Gives every C1 word of the array its check bytes.
-fn put_c1(array: &mut [u8])
-    requires { length array.old ≡ 4096 }
+fn put_c1(array: &mut [u8; ARRAY])
     ensures { (p : ℕ) → p < 4096 → slice_index array.new p ≡ c1_filled array.old p }
 {
+    let bytes: &mut [u8] = array;
     for w in 0..128 {
         let at = Interleaving {
             start: 64 * (w / 2) + w % 2,
             stride: 2,
         };
-        let _ = C1.fill_interleaved(array, at, &C1_CHECKS);
+        let _ = C1.fill_interleaved(bytes, at, &C1_CHECKS);
     }
 }
 
 /// Lays the bytes of a row at their places, and 0 at the others.
-fn lay(places: &Places, row: &[u8], array: &mut [u8])
-    requires row_len { length row.now ≡ 2912 }
-    requires array_len { length array.old ≡ 4096 }
+fn lay(places: &Places, row: &[u8; ROW], array: &mut [u8; ARRAY])
     ensures { (b s : ℕ) → b < 128 → s < 32 → array_in array.new b s ≡ laid row.now b s }
 {
     array.fill(0);
@@ -52,9 +51,7 @@ fn lay(places: &Places, row: &[u8], array: &mut [u8])
 }
 
 /// Makes the array of a row: its bytes at their places, then the check bytes of C2, then those of C1.
-pub(crate) fn make_array(places: &Places, row: &[u8], array: &mut [u8])
-    requires row_len { length row.now ≡ 2912 }
-    requires array_len { length array.old ≡ 4096 }
+pub(crate) fn make_array(places: &Places, row: &[u8; ROW], array: &mut [u8; ARRAY])
     ensures { (b s : ℕ) → b < 128 → s < 32 → array_in array.new b s ≡ array_of row.now b s }
 {
     lay(places, row, array);

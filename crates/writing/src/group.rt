@@ -13,7 +13,7 @@ use layout::address::{Address, has_group};
 use layout::lent::check_lent;
 use layout::register::Register;
 use layout::settings::Settings;
-use layout::sizes::{ROW, ROWS, TRACKS};
+use layout::sizes::{ARRAY, BENCH, GROUP, ROW, ROWS, TRACK_WORDS, TRACKS};
 use tape::traits::Recordable;
 
 /// Stores the track of one row.
@@ -21,16 +21,13 @@ fn store_track<T: Recordable, C: LineCode>(
     tape: &mut T,
     code: &C,
     position: Address,
-    row: &[u8],
+    row: &[u8; ROW],
     places: &Places,
-    array: &mut [u8],
-    buffer: &mut [u16],
+    array: &mut [u8; ARRAY],
+    buffer: &mut [u16; TRACK_WORDS],
 )
     requires number_nonzero { 0 < position.group }
     requires number_in_bounds { 46 * position.group ≤ length (T.Playable.tracks tape.old) }
-    requires row_len { length row.now ≡ 2912 }
-    requires array_len { length array.old ≡ 4096 }
-    requires buffer_len { length buffer.old ≡ 4608 }
     ensures kept { T.Recordable.rest tape.new ≡ T.Recordable.rest tape.old }
     ensures tape { T.Playable.tracks tape.new ≡ slice_set (T.Playable.tracks tape.old) (46 * (position.group - 1) + position.track) (Some (track (C.line code.now) (address position.group position.track) (array_of row.now))) }
 {
@@ -45,16 +42,13 @@ fn store_rows<T: Recordable, C: LineCode>(
     tape: &mut T,
     code: &C,
     number: u16,
-    rows: &[u8],
+    rows: &[u8; ROWS],
     places: &Places,
-    array: &mut [u8],
-    buffer: &mut [u16],
+    array: &mut [u8; ARRAY],
+    buffer: &mut [u16; TRACK_WORDS],
 )
     requires number_nonzero { 0 < number }
     requires number_in_bounds { 46 * number ≤ length (T.Playable.tracks tape.old) }
-    requires rows_len { length rows.now ≡ 133952 }
-    requires array_len { length array.old ≡ 4096 }
-    requires buffer_len { length buffer.old ≡ 4608 }
     ensures kept { T.Recordable.rest tape.new ≡ T.Recordable.rest tape.old }
     ensures tape { T.Playable.tracks tape.new ≡ with_tracks (λ t. track (C.line code.now) (address number t) (array_of (row_in rows.now t))) number (T.Playable.tracks tape.old) }
 {
@@ -63,7 +57,7 @@ fn store_rows<T: Recordable, C: LineCode>(
             group: number,
             track,
         };
-        let row = &rows[ROW * track..ROW * track + ROW];
+        let row = rows[ROW * track..].first_chunk().unwrap();
         store_track(tape, code, position, row, places, array, buffer);
     }
 }
@@ -74,22 +68,19 @@ fn store_group<T: Recordable, C: LineCode>(
     code: &C,
     register: Register,
     number: u16,
-    group: &[u8],
-    bench: &mut [u8],
-    buffer: &mut [u16],
+    group: &[u8; GROUP],
+    bench: &mut [u8; BENCH],
+    buffer: &mut [u16; TRACK_WORDS],
 )
     requires number_nonzero { 0 < number }
     requires number_in_bounds { 46 * number ≤ length (T.Playable.tracks tape.old) }
-    requires group_len { length group.now ≡ 126632 }
-    requires bench_len { length bench.old ≡ 138048 }
-    requires buffer_len { length buffer.old ≡ 4608 }
     ensures kept { T.Recordable.rest tape.new ≡ T.Recordable.rest tape.old }
     ensures tape { T.Playable.tracks tape.new ≡ with_group (C.line code.now) register.tap register.bits number group.now (T.Playable.tracks tape.old) }
 {
-    rows::make_rows(register, number, group, bench);
-    let places = Places::new();
-    let (rows, array) = bench.split_at_mut(ROWS);
-    store_rows(tape, code, number, rows, &places, array, buffer);
+    let (rows, rest) = bench.split_first_chunk_mut().unwrap();
+    let array = rest.as_mut_array().unwrap();
+    rows::make_rows(register, number, group, rows);
+    store_rows(tape, code, number, rows, &Places::new(), array, buffer);
 }
 
 /// Writes a group where the tape has it.
@@ -98,13 +89,10 @@ fn put_group<T: Recordable, C: LineCode>(
     code: &C,
     register: Register,
     number: u16,
-    group: &[u8],
-    bench: &mut [u8],
-    buffer: &mut [u16],
+    group: &[u8; GROUP],
+    bench: &mut [u8; BENCH],
+    buffer: &mut [u16; TRACK_WORDS],
 ) -> Result<(), WriteFault>
-    requires group_len { length group.now ≡ 126632 }
-    requires bench_len { length bench.old ≡ 138048 }
-    requires buffer_len { length buffer.old ≡ 4608 }
     ensures answer { result ≡ reached number (length (T.Playable.tracks tape.old)) }
     ensures kept { T.Recordable.rest tape.new ≡ T.Recordable.rest tape.old }
     ensures tape { T.Playable.tracks tape.new ≡ outcome (reached number (length (T.Playable.tracks tape.old))) (with_group (C.line code.now) register.tap register.bits number group.now (T.Playable.tracks tape.old)) (T.Playable.tracks tape.old) }
@@ -134,6 +122,9 @@ pub fn write_group<T: Recordable, C: LineCode>(
     ensures buffer { buffer.new ≡ outcome (lent (length buffer.old) settings.tap settings.start (length group.now) (length bench.old)) (replicate (length buffer.old) 0) buffer.old }
 {
     let register = check_lent(buffer.len(), settings, group.len(), bench.len())?;
+    let group = group.as_array().unwrap();
+    let bench = bench.as_mut_array().unwrap();
+    let buffer = buffer.as_mut_array().unwrap();
     let answer = put_group(tape, code, register, number, group, bench, buffer);
     bench.fill(0);
     buffer.fill(0);

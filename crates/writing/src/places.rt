@@ -8,13 +8,11 @@ use layout::sizes::ROW;
 #[derive(Drop)]
 pub(crate) struct Places {
     pub(crate) of: [u16; ROW],
-    ghost size: { length of ≡ 2912 },
     ghost at: { (q : ℕ) → q < 2912 → slice_index of q ≡ 32 * block_at q + serial_at q },
 }
 
 /// Writes the place of each number.
-fn find_places(places: &mut [u16])
-    requires { length places.old ≡ 2912 }
+fn find_places(places: &mut [u16; ROW])
     ensures { (q : ℕ) → q < 2912 → slice_index places.new q ≡ 32 * block_at q + serial_at q }
 {
     for (q, place) in places.iter_mut().enumerate() {

@@ -3,7 +3,7 @@ ghost use Rattle.writing.specs.Rows.{pad_at, data_index, plain_at, c3_filled, Ha
 
 use layout::address::Address;
 use layout::register::Register;
-use layout::sizes::{ROW, SUB_GROUP, TRACKS};
+use layout::sizes::{GROUP, ROW, ROWS, SUB_GROUP, TRACKS};
 use reed_solomon::codes::C3;
 use reed_solomon::interleaved::Interleaving;
 
@@ -13,10 +13,8 @@ const C3_CHECKS: [usize; 2] = [45, 44];
 /// A group, and the bytes that are XORed to each of its sub-groups.
 #[derive(Clone, Copy)]
 struct Source<'a> {
-    group: &'a [u8],
-    pad: &'a [u8],
-    ghost group_size: { length group.now ≡ 126632 },
-    ghost pad_size: { length pad.now ≡ 5756 },
+    group: &'a [u8; GROUP],
+    pad: &'a [u8; SUB_GROUP],
 }
 
 /// The bytes that are XORed to each sub-group.
@@ -64,8 +62,7 @@ impl Source<'_> {
     }
 
     /// Writes all rows before the check bytes of C3.
-    fn spread(self, number: u16, rows: &mut [u8])
-        requires { 133952 ≤ length rows.old }
+    fn spread(self, number: u16, rows: &mut [u8; ROWS])
         ensures { (p : ℕ) → p < 133952 → slice_index rows.new p ≡ plain_at self.entry.group.now self.entry.pad.now (p / 2912) (p % 2912) }
     {
         for track in 0..TRACKS {
@@ -79,28 +76,26 @@ impl Source<'_> {
 }
 
 /// Gives every C3 word of data its check bytes.
-fn put_c3(bench: &mut [u8])
-    requires { 133952 ≤ length bench.old }
-    ensures { (p : ℕ) → p < 133952 → slice_index bench.new p ≡ c3_filled bench.old p }
+fn put_c3(rows: &mut [u8; ROWS])
+    ensures { (p : ℕ) → p < 133952 → slice_index rows.new p ≡ c3_filled rows.old p }
 {
+    let bytes: &mut [u8] = rows;
     for w in 0..2878 {
         let at = Interleaving {
             start: w + 2,
             stride: ROW,
         };
-        let _ = C3.fill_interleaved(bench, at, &C3_CHECKS);
+        let _ = C3.fill_interleaved(bytes, at, &C3_CHECKS);
     }
 }
 
 /// Writes the rows of a group: what each of its 46 tracks carries.
-pub(crate) fn make_rows(register: Register, number: u16, group: &[u8], bench: &mut [u8])
-    requires group_len { length group.now ≡ 126632 }
-    requires in_bounds { 133952 ≤ length bench.old }
-    ensures { HasRows register.tap register.bits group.now bench.new }
+pub(crate) fn make_rows(register: Register, number: u16, group: &[u8; GROUP], rows: &mut [u8; ROWS])
+    ensures { HasRows register.tap register.bits group.now rows.new }
 {
     let mut pad = [0u8; SUB_GROUP];
     make_pad(register, &mut pad);
     let source = Source { group, pad: &pad };
-    source.spread(number, bench);
-    put_c3(bench);
+    source.spread(number, rows);
+    put_c3(rows);
 }

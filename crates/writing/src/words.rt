@@ -7,12 +7,18 @@ ghost use Rattle.writing.specs.Sending.{Sent};
 use channel::line::LineCode;
 use channel::state::State;
 use layout::address::Address;
-use layout::sizes::{BLOCK_BYTES, BLOCK_WORDS, BLOCKS};
+use layout::sizes::{ARRAY, BLOCK_BYTES, BLOCK_WORDS, BLOCKS, TRACK_WORDS};
 use layout::sync::sync_after;
 
 /// Puts the word of a byte at place `i`, and gives the next state.
-fn send<C: LineCode>(code: &C, state: State, byte: u8, words: &mut [u16], i: usize) -> State
-    requires { i < length words.old }
+fn send<C: LineCode>(
+    code: &C,
+    state: State,
+    byte: u8,
+    words: &mut [u16; TRACK_WORDS],
+    i: usize,
+) -> State
+    requires { i < 4608 }
     ensures next { result ≡ ((C.line code.now).encode state byte).1 }
     ensures words { words.new ≡ slice_set words.old i ((C.line code.now).encode state byte).0 }
 {
@@ -25,13 +31,12 @@ fn send<C: LineCode>(code: &C, state: State, byte: u8, words: &mut [u16], i: usi
 fn send_block<C: LineCode>(
     code: &C,
     position: Address,
-    array: &[u8],
+    array: &[u8; ARRAY],
     b: usize,
     before: State,
-    words: &mut [u16],
+    words: &mut [u16; TRACK_WORDS],
 ) -> State
     requires b_bound { b < 128 }
-    requires array_len { length array.now ≡ 4096 }
     requires sent { Sent (C.line code.now) (address position.group position.track) (array_in array.now) words.old before (36 * b) }
     ensures { Sent (C.line code.now) (address position.group position.track) (array_in array.now) words.new result (36 * b + 36) }
 {
@@ -50,9 +55,12 @@ fn send_block<C: LineCode>(
 }
 
 /// Puts the words of the track of an array.
-pub(crate) fn send_track<C: LineCode>(code: &C, position: Address, array: &[u8], words: &mut [u16])
-    requires array_len { length array.now ≡ 4096 }
-    requires words_len { length words.old ≡ 4608 }
+pub(crate) fn send_track<C: LineCode>(
+    code: &C,
+    position: Address,
+    array: &[u8; ARRAY],
+    words: &mut [u16; TRACK_WORDS],
+)
     ensures { words.new ≡ track (C.line code.now) (address position.group position.track) (array_in array.now) }
 {
     let mut state = State::Zero;

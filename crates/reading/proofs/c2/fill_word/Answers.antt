@@ -1,4 +1,4 @@
-use Rattle.std.proofs.Common.{◌≡◌, ◌+◌, ◌*◌, ◌≤◌, true, false, List, ℕ, length, ap, ◌∙◌, arith}
+use Rattle.std.proofs.Common.{◌≡◌, ◌+◌, ◌*◌, ◌≤◌, true, false, length, ap, ◌∙◌, arith}
 use Rattle.layout.specs.Counts.{which}
 use Rattle.reading.specs.Arrays.{erased_in}
 use Rattle.reading.proofs.Lists.{which-places}

@@ -1,4 +1,4 @@
-use Rattle.std.proofs.Common.{◌≡◌, Bool, true, false, not, Ok, Err, is_ok, is_err, Result, sym, refl, ap, ◌∙◌, subst}
+use Rattle.std.proofs.Common.{◌≡◌, not, Ok, Err, is_ok, is_err, Result, sym, refl, ap, ◌∙◌, subst}
 use Rattle.reed_solomon.specs.declared.fault.Unfillable.{Unfillable}
 use Rattle.reading.specs.Groups.{Column}
 use Rattle.reading.proofs.CrossWords.{columns-start, columns-more, columns-fail, columns-end}

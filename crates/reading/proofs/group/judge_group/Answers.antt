@@ -1,5 +1,4 @@
-use Rattle.std.proofs.Common.{◌≡◌, ℕ, ◌-◌, ◌<◌, ◌≤◌, List, length, take, drop, Err, sym, ap, ◌∙◌, subst, rules}
-use Rattle.std.proofs.lemmas.List.{take_rest}
+use Rattle.std.proofs.Common.{◌≡◌, ◌<◌, ◌≤◌, length, Err, sym, ap, ◌∙◌, subst, rules}
 use Rattle.layout.specs.Counts.{which}
 use Rattle.losses.specs.declared.fault.ReadFault.TheVariants.{ThirdLoss}
 use Rattle.losses.specs.declared.sheet.LossRow.{LossRow}
@@ -23,7 +22,6 @@ pub fill_words-requires : goal.fill_words-requires
 fill_words-requires c =
     let e : c.as_slice.result.now ≡ which (gone_in c.args.sheet.now.rows) 46 = c.as_slice.ensures.value ∙ c.lost_tracks-lost.ensures in
     record {
-      size = c.requires.rows;
       places = which-places (gone_in c.args.sheet.now.rows) 46 c.as_slice.result.now e;
       few = subst (λ z. length z ≤ 2) (sym e) (few-lost c.args.sheet.now.rows c.in_default.ensures);
     }

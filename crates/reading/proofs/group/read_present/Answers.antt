@@ -1,20 +1,16 @@
-use Rattle.std.proofs.Common.{◌≡◌, ℕ, length, replicate, sym, ap, ◌∙◌, ap₂, arith, rules}
+use Rattle.std.proofs.Common.{ℕ, length, get_or, ap, ◌∙◌, ap₂}
 use Rattle.layout.specs.Group.{group_read}
 use Rattle.layout.specs.Reading.{Outcome}
 use Rattle.reading.specs.Groups.{outcomes, answer_of, group_after}
-use Rattle.reading.proofs.WholeGroup.{found-is, sheet-is, zero-front}
+use Rattle.reading.proofs.WholeGroup.{found-is, sheet-is, zero-all}
 use Rattle.reading.proofs.group.read_present.Goals as goal
 
 pub read_tracks-requires : goal.read_tracks-requires
 read_tracks-requires g c =
-    let e : c.fill.new.self ≡ replicate (length c.args.bench.now) 0 = search rules in
     record {
       group = c.requires.present;
       tape = c.requires.tape;
-      buffer = c.requires.buffer;
-      array = omega (arith, c.split_at_mut-rows.ensures.back_len, c.fill.ensures.len, c.requires.bench);
-      rows = c.split_at_mut-rows.ensures.front_len;
-      zero = zero-front c.split_at_mut-rows.result.0.now c.split_at_mut-rows.result.1.now (length c.args.bench.now) (sym e ∙ c.split_at_mut-rows.ensures.value);
+      zero = λ p. ap (λ z. get_or z p 0) (c.fill.ensures.after (λ y e. e)) ∙ zero-all (length c.unwrap.result.0.now) p;
     }
 
 pub returns : goal.returns

@@ -1,4 +1,4 @@
-use Rattle.std.proofs.Common.{◌≡◌, ℕ, ◌+◌, ◌-◌, ◌++◌, length, sym, ap, ◌∙◌, arith}
+use Rattle.std.proofs.Common.{ℕ, ◌+◌, ◌-◌, ◌++◌, length, sym, ap, ◌∙◌, arith}
 use Rattle.layout.specs.Counts.{which}
 use Rattle.reading.proofs.Downwards.{passed, failed, over}
 use Rattle.reading.proofs.passing.passing.Goals as goal

@@ -8,7 +8,7 @@ use Rattle.reading.proofs.Masks.{group-is}
 use Rattle.reading.proofs.randomizer.take_group.Goals as goal
 
 pub loop-d-init : goal.loop-d-init
-loop-d-init c = record { tap = refl; bits = no_steps c.args.register.tap c.args.register.bits; bytes = λ f e h l. absurd (omega arith) }
+loop-d-init c = record { size = c.told-group; tap = refl; bits = no_steps c.args.register.tap c.args.register.bits; bytes = λ f e h l. absurd (omega arith) }
 
 pub loop-d-preserved : goal.loop-d-preserved
 loop-d-preserved c =
@@ -17,6 +17,7 @@ loop-d-preserved c =
     let d : ℕ = c.loop-d.d in
     let more : 8 * d + 8 ≡ 8 * (d + 1) = omega arith in
     record {
+      size = c.put_bytes.array_long;
       tap = c.next_byte-mask.ensures.tap ∙ c.loop-d.invariant.tap;
       bits = c.next_byte-mask.ensures.bits ∙ ap₂ (λ t b. steps t 8 b) c.loop-d.invariant.tap c.loop-d.invariant.bits ∙ steps-add tap 8 (8 * d) start ∙ ap (λ n. steps tap n start) more;
       bytes = λ f e h l.
@@ -30,5 +31,5 @@ loop-d-preserved c =
 
 pub returns : goal.returns
 returns c =
-    group-is c.args.register.tap c.args.register.bits c.args.rows.now c.loop-d.group (c.loop-d.auto.group ∙ c.requires.group_len)
+    group-is c.args.register.tap c.args.register.bits c.args.rows.now c.loop-d.group c.loop-d.invariant.size
     (λ f e h l. c.loop-d.invariant.bytes f e h (omega arith))

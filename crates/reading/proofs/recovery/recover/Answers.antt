@@ -1,4 +1,4 @@
-use Rattle.std.proofs.Common.{ℕ, ◌<◌, Bool, true, false, get_or, Ok, Err, is_ok, Result, MatchBool, OnOk, OnErr, length, sym, refl, ◌∙◌, rules}
+use Rattle.std.proofs.Common.{ℕ, ◌<◌, true, false, get_or, Ok, Err, is_ok, Result, MatchBool, OnOk, OnErr, length, sym, refl, ◌∙◌, rules}
 use Rattle.std.proofs.lemmas.Bool.{eqb-true}
 use Rattle.reed_solomon.specs.declared.fault.Unfillable.{Unfillable}
 use Rattle.reed_solomon.specs.Interleaves.{interleaved, Refilled, Unfilled}

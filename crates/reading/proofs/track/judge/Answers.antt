@@ -10,8 +10,6 @@ use Rattle.reading.proofs.track.judge.Goals as goal
 
 pub take_bytes-requires : goal.take_bytes-requires
 take_bytes-requires g c = record {
-  words = c.requires.words;
-  array = c.requires.array;
   so_far = taken_none (g.C.LineCode.line c.args.code.now) (address c.args.position.group c.args.position.track) (at c.args.words.now) c.args.array.now c.new-lost.result.marks
       (λ k h. ap (λ z. get_or z k false) c.new-lost.ensures ∙ get_or-replicate 128 k false false h);
 }

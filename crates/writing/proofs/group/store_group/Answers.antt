@@ -6,8 +6,7 @@ returns g c =
     record {
       kept = c.store_rows.ensures.kept;
       tape =
-          group-made c.args.register.tap c.args.register.bits c.args.group.now c.make_rows.new.bench c.split_at_mut-rows.result.0.now
-          c.split_at_mut-rows.result.1.now c.split_at_mut-rows.ensures.value c.split_at_mut-rows.ensures.front_len c.make_rows.ensures
+          group-made c.args.register.tap c.args.register.bits c.args.group.now c.make_rows.new.rows c.make_rows.array_long c.make_rows.ensures
           (g.C.LineCode.line c.args.code.now) c.args.number (g.T.Playable.tracks c.args.tape.now)
           (g.T.Playable.tracks c.store_rows.new.tape) c.store_rows.ensures.tape;
     }

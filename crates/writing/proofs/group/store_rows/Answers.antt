@@ -1,22 +1,17 @@
-use Rattle.std.proofs.Common.{◌≡◌, ℕ, ◌+◌, ◌-◌, ◌*◌, List, length, take, drop, set, Some, refl, ap, ◌∙◌, arith, length-drop, length-take}
+use Rattle.std.proofs.Common.{◌≡◌, ℕ, ◌+◌, ◌-◌, ◌*◌, List, set, Some, refl, ap, ◌∙◌, arith}
 use Rattle.layout.specs.Group.{address}
 use Rattle.layout.specs.Line.{track}
 use Rattle.layout.specs.Writing.{array_of}
 use Rattle.writing.specs.Rows.{row_in}
+use Rattle.writing.proofs.Chunks.{chunk-at}
 use Rattle.writing.proofs.TapeSteps.{tracks-none, tracks-more, tracks-all}
 use Rattle.writing.proofs.group.store_rows.Goals as goal
 
 pub store_track-requires : goal.store_track-requires
 store_track-requires g c =
-    let d : 2912 * c.loop-track.track + 2912 - 2912 * c.loop-track.track ≡ 2912 = omega arith in
-    let l : length (take (2912 * c.loop-track.track + 2912 - 2912 * c.loop-track.track) (drop (2912 * c.loop-track.track) c.args.rows.now)) ≡ 2912 =
-    simp (length-take, length-drop) (omega (arith, c.requires.rows_len)) in
     record {
       number_nonzero = c.requires.number_nonzero;
       number_in_bounds = omega (arith, c.requires.number_in_bounds, c.loop-track.invariant.0.size);
-      row_len = l;
-      array_len = c.loop-track.invariant.2;
-      buffer_len = c.loop-track.invariant.3;
     }
 
 pub loop-track-init : goal.loop-track-init
@@ -24,8 +19,6 @@ loop-track-init g c = (
   tracks-none (λ t. track (g.C.LineCode.line c.args.code.now) (address c.args.number t) (array_of (row_in c.args.rows.now t)))
       (46 * (c.args.number - 1)) (g.T.Playable.tracks c.args.tape.now),
   refl,
-  c.requires.array_len,
-  c.requires.buffer_len,
 )
 
 pub loop-track-preserved : goal.loop-track-preserved
@@ -35,13 +28,10 @@ loop-track-preserved g c =
     let base : ℕ = 46 * (c.args.number - 1) in
     let t = c.loop-track.track in
     let us = g.T.Playable.tracks c.loop-track.tape in
-    let d : 2912 * t + 2912 - 2912 * t ≡ 2912 = omega arith in (
+    let row : c.unwrap-row.result.now ≡ row_in c.args.rows.now t = chunk-at c.args.rows.now (2912 * t) (133952 - 2912 * t) 2912 c.first_chunk.result c.unwrap-row.result (omega (arith, c.told-rows)) c.first_chunk.ensures.cases c.unwrap-row.ensures in (
       tracks-more f base (g.T.Playable.tracks c.args.tape.now) us (g.T.Playable.tracks c.store_track.new.tape) t (omega (arith, c.requires.number_nonzero, c.requires.number_in_bounds))
-          (c.store_track.ensures.tape
-          ∙ ap (λ n. set us (base + t) (Some (track k (address c.args.number t) (array_of (take n (drop (2912 * t) c.args.rows.now)))))) d) c.loop-track.invariant.0,
+          (c.store_track.ensures.tape ∙ ap (λ r. set us (base + t) (Some (track k (address c.args.number t) (array_of r)))) row) c.loop-track.invariant.0,
       c.store_track.ensures.kept ∙ c.loop-track.invariant.1,
-      c.store_track.auto.array ∙ c.loop-track.invariant.2,
-      c.store_track.auto.buffer ∙ c.loop-track.invariant.3,
     )
 
 pub returns : goal.returns

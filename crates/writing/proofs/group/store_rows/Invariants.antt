@@ -1,4 +1,4 @@
-use Rattle.std.proofs.Common.{◌≡◌, ◌-◌, ◌*◌, length}
+use Rattle.std.proofs.Common.{◌≡◌, ◌-◌, ◌*◌}
 use Rattle.layout.specs.Group.{address}
 use Rattle.layout.specs.Line.{track}
 use Rattle.layout.specs.Writing.{array_of}
@@ -11,5 +11,3 @@ invariant-loop-track g l =
     TracksTo (λ t. track (g.C.LineCode.line l.code) (address l.number t) (array_of (row_in l.rows t))) (46 * (l.number - 1))
     (g.T.Playable.tracks l.initial.tape) (g.T.Playable.tracks l.tape) l.track
     × (g.T.Recordable.rest l.tape ≡ g.T.Recordable.rest l.initial.tape)
-    × (length l.array ≡ 4096)
-    × (length l.buffer ≡ 4608)

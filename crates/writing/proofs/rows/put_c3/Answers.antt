@@ -10,7 +10,7 @@ pub fill_interleaved-requires : goal.fill_interleaved-requires
 unfolding c3_checks which
 fill_interleaved-requires c =
     record {
-      reaches = λ j h. omega (arith, c.loop-w.invariant.0);
+      reaches = λ j h. omega arith;
       stride_nonzero = lit< tt;
       length_bound = lit< tt;
       places = c3-places;
@@ -18,25 +18,23 @@ fill_interleaved-requires c =
     }
 
 pub loop-w-init : goal.loop-w-init
-loop-w-init c = (c.requires, passed_none 2 c3_checks 133952 2912 46 (λ p. (p % 2912 + 2910) % 2912) (λ p. p / 2912) (λ p. p % 2912) c.args.bench.now)
+loop-w-init c = passed_none 2 c3_checks 133952 2912 46 (λ p. (p % 2912 + 2910) % 2912) (λ p. p / 2912) (λ p. p % 2912) c.args.rows.now
 
 pub loop-w-preserved : goal.loop-w-preserved
 unfolding c3_checks which
 loop-w-preserved c =
-    let b : (i : ℕ) → get_or c.loop-w.bench i 0 < 256 = λ i. search rules in
+    let b : (i : ℕ) → get_or c.loop-w.bytes i 0 < 256 = λ i. search rules in
     let w = c.loop-w.w in
     let e : w + 2 ≡ (w + 2) % 2912 = omega arith in
-    let l : w < 2912 = omega arith in (
-      omega (arith, c.fill_interleaved.auto.memory, c.loop-w.invariant.0),
-      one_more 2 c3_checks 133952 2912 2912 46 (λ p. (p % 2912 + 2910) % 2912) (λ p. p / 2912) (λ p. p % 2912) (λ w. (w + 2) % 2912) c3-split (lit≤ tt) c3-places refl
-          c.args.bench.now c.loop-w.bench c.fill_interleaved.new.memory w l (λ j h. omega arith) b c.loop-w.invariant.1
-          c.fill_interleaved.result
-          (subst (λ s. OnOk c.fill_interleaved.result (Refilled 2 c3_checks c.loop-w.bench c.fill_interleaved.new.memory s 2912 46)) e c.fill_interleaved.ensures.ok)
-          (subst (λ s. OnErr c.fill_interleaved.result (Unfilled 2 c3_checks c.loop-w.bench c.fill_interleaved.new.memory s 2912 46)) e c.fill_interleaved.ensures.err),
-    )
+    let l : w < 2912 = omega arith in
+    one_more 2 c3_checks 133952 2912 2912 46 (λ p. (p % 2912 + 2910) % 2912) (λ p. p / 2912) (λ p. p % 2912) (λ w. (w + 2) % 2912) c3-split (lit≤ tt) c3-places refl
+    c.args.rows.now c.loop-w.bytes c.fill_interleaved.new.memory w l (λ j h. omega arith) b c.loop-w.invariant
+    c.fill_interleaved.result
+    (subst (λ s. OnOk c.fill_interleaved.result (Refilled 2 c3_checks c.loop-w.bytes c.fill_interleaved.new.memory s 2912 46)) e c.fill_interleaved.ensures.ok)
+    (subst (λ s. OnErr c.fill_interleaved.result (Unfilled 2 c3_checks c.loop-w.bytes c.fill_interleaved.new.memory s 2912 46)) e c.fill_interleaved.ensures.err)
 
 pub returns : goal.returns
 unfolding c3_filled
 returns c =
     let e : c.loop-w.w ≡ 2878 = omega arith in
-    subst (λ w. Passed 2 c3_checks 133952 2912 46 (λ p. (p % 2912 + 2910) % 2912) (λ p. p / 2912) (λ p. p % 2912) c.args.bench.now c.loop-w.bench w) e c.loop-w.invariant.1
+    subst (λ w. Passed 2 c3_checks 133952 2912 46 (λ p. (p % 2912 + 2910) % 2912) (λ p. p / 2912) (λ p. p % 2912) c.args.rows.now c.loop-w.bytes w) e c.loop-w.invariant

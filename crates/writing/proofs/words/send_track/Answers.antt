@@ -7,7 +7,7 @@ use Rattle.writing.proofs.words.send_track.Goals as goal
 pub loop-b-init : goal.loop-b-init
 loop-b-init g c =
     sent-none (g.C.LineCode.line c.args.code.now) (address c.args.position.group c.args.position.track) (array_in c.args.array.now)
-    c.args.words.now c.requires.words_len
+    c.args.words.now c.told-words
 
 pub returns : goal.returns
 returns g c =
