@@ -1,70 +1,51 @@
+use recorder::list::Call;
 use std::alloc::{AllocError, Global};
 
-/// What a line of a callout asks for. The bytes of a record stand in the callout's own.
-#[derive(Clone, Copy)]
+/// What a line of a callout asks for.
+#[derive(Drop)]
 pub(crate) enum Order {
-    Record { from: usize, to: usize },
+    /// A record with its bytes.
+    Record(Vec<u8>),
+    /// A mark of this kind.
     Mark(u8),
+    /// A warning.
     Warn,
-    /// It was not understood.
-    Unclear,
 }
 
-/// A callout as a text gives it: the orders, the bytes of all records, how many lines were read, and which of them were
-/// not understood.
+/// A callout as a text gives it: the orders, and the numbers of the lines that were not understood.
 #[derive(Drop)]
 pub(crate) struct Callout {
     pub(crate) orders: Vec<Order>,
-    pub(crate) bytes: Vec<u8>,
     pub(crate) unclear: Vec<usize>,
-    lines: usize,
 }
 
-/// Adds bytes that are written in hex; false where a word is no byte.
-fn add_hex(bytes: &mut Vec<u8>, text: &str) -> Result<bool, AllocError> {
-    for word in text.split_whitespace() {
-        match u8::from_str_radix(word, 16) {
-            Ok(byte) => bytes.push(byte)?,
-            Err(_) => return Ok(false),
-        }
-    }
-    Ok(true)
+/// The bytes that a text gives in hex; none where a word is no byte.
+fn bytes_in_hex(heap: Global, text: &str) -> Result<Option<Vec<u8>>, AllocError> {
+    text.split_whitespace()
+        .map(|word| u8::from_str_radix(word, 16).ok())
+        .collect(heap)
 }
 
-/// A mark of the kind that a word gives.
-fn mark_of(word: &str) -> Order {
-    match word.parse::<u8>() {
-        Ok(kind) => Order::Mark(kind),
-        Err(_) => Order::Unclear,
-    }
-}
-
-/// The order of a line whose word gives a record; its bytes are added.
-fn record_of(bytes: &mut Vec<u8>, word: &str, rest: &str) -> Result<Order, AllocError> {
-    let from = bytes.len();
-    let clear = match word {
-        "record" => {
-            bytes.extend_from_slice(rest.as_bytes())?;
-            true
-        }
-        "hex" => add_hex(bytes, rest)?,
-        _ => false,
-    };
-    let to = bytes.len();
-    Ok(if clear {
-        Order::Record { from, to }
-    } else {
-        Order::Unclear
+/// The order of a line; none where it is not understood.
+fn order_of(heap: Global, line: &str) -> Result<Option<Order>, AllocError> {
+    let (word, rest) = line.split_once(' ').unwrap_or((line, ""));
+    Ok(match word {
+        "record" => Some(Order::Record(Vec::from_slice(heap, rest.as_bytes())?)),
+        "hex" => bytes_in_hex(heap, rest)?.map(Order::Record),
+        "mark" => rest.trim().parse::<u8>().ok().map(Order::Mark),
+        "warn" => Some(Order::Warn),
+        _ => None,
     })
 }
 
-/// The order of a line.
-fn order_of(bytes: &mut Vec<u8>, line: &str) -> Result<Order, AllocError> {
-    let (word, rest) = line.split_once(' ').unwrap_or((line, ""));
-    match word {
-        "warn" => Ok(Order::Warn),
-        "mark" => Ok(mark_of(rest.trim())),
-        _ => record_of(bytes, word, rest),
+impl Order {
+    /// The call that the order asks for.
+    pub(crate) fn call(&self) -> Call<'_> {
+        match self {
+            Order::Record(bytes) => Call::Record(bytes.as_slice()),
+            Order::Mark(kind) => Call::Mark(*kind),
+            Order::Warn => Call::Warn,
+        }
     }
 }
 
@@ -73,22 +54,24 @@ impl Callout {
     pub(crate) fn new(heap: Global) -> Callout {
         Callout {
             orders: Vec::new(heap),
-            bytes: Vec::new(heap),
             unclear: Vec::new(heap),
-            lines: 0,
         }
     }
 
-    /// Adds a line. An empty line, or one that begins with #, is passed over.
-    pub(crate) fn add(&mut self, line: &str) -> Result<(), AllocError> {
-        self.lines = self.lines.saturating_add(1);
+    /// Adds the line with this number. An empty line, or one that begins with #, is passed over.
+    pub(crate) fn add(
+        &mut self,
+        heap: Global,
+        number: usize,
+        line: &str,
+    ) -> Result<(), AllocError> {
         let line = line.trim();
         if line.is_empty() || line.starts_with('#') {
             return Ok(());
         }
-        match order_of(&mut self.bytes, line)? {
-            Order::Unclear => self.unclear.push(self.lines)?,
-            order => self.orders.push(order)?,
+        match order_of(heap, line)? {
+            Some(order) => self.orders.push(order)?,
+            None => self.unclear.push(number)?,
         }
         Ok(())
     }

@@ -1,5 +1,6 @@
+use crate::buffers::Buffers;
 use channel::line::LineCode;
-use index::entry::{Content, IndexEntry};
+use index::entry::{Content, IndexEntry, Part};
 use index::reader::IndexReader;
 use layout::settings::Settings;
 use losses::fault::ReadFault;
@@ -8,16 +9,14 @@ use reading::group::read_group;
 use std::io;
 use tape::traits::Playable;
 
-/// Entries of a group's index, at the most.
-const ENTRIES: usize = 31_650;
-
 /// What a part of a record says, as far as it is short and a text.
-fn print_part(rt: &impl Print, place: usize, bytes: &[u8]) -> io::Result<()> {
+fn print_part(rt: &impl Print, part: Part) -> io::Result<()> {
+    let place = part.place;
     print!(rt; " at place {place}")?;
-    if bytes.len() > 60 {
+    if part.bytes.len() > 60 {
         return Ok(());
     }
-    match std::str::from_utf8(bytes) {
+    match std::str::from_utf8(part.bytes) {
         Ok(text) => print!(rt; ": {text}"),
         Err(_) => Ok(()),
     }
@@ -43,26 +42,17 @@ fn print_entry(rt: &impl Print, number: usize, entry: IndexEntry) -> io::Result<
     let count = entry.count;
     let warned = if entry.warned == 1 { ", warned" } else { "" };
     print!(rt; "    {number}: {name}, count {count}{warned}")?;
-    match entry.content {
-        Content::Middle(part)
-        | Content::Start(part)
-        | Content::Last(part)
-        | Content::Entire(part) => {
-            print_part(rt, part.place, part.bytes)?;
-        }
-        _ => {}
+    if let Some(part) = entry.content.part() {
+        print_part(rt, part)?;
     }
     println!(rt; "")
 }
 
 /// Prints the index of a group.
 fn print_index(rt: &impl Print, group: &[u8]) -> io::Result<()> {
-    if let Some(mut reader) = IndexReader::new(group) {
-        for number in 1..ENTRIES + 1 {
-            match reader.next() {
-                Some(entry) => print_entry(rt, number, entry)?,
-                None => return Ok(()),
-            }
+    if let Some(reader) = IndexReader::new(group) {
+        for (passed, entry) in reader.enumerate() {
+            print_entry(rt, passed.saturating_add(1), entry)?;
         }
     }
     Ok(())
@@ -94,18 +84,22 @@ pub(crate) fn print_groups<T: Playable, C: LineCode>(
     code: &C,
     settings: Settings,
     groups: u16,
-    group: &mut [u8],
-    bench: &mut [u8],
-    buffer: &mut [u16],
+    buffers: &mut Buffers,
 ) -> io::Result<()> {
     println!(rt; "Index")?;
-    for number in 1..groups as u32 + 1 {
-        let number = (number & 0xffff) as u16;
+    for number in 1..=groups {
         let mut sheet = LossSheet::new();
         let answer = read_group(
-            tape, code, settings, number, bench, buffer, group, &mut sheet,
+            tape,
+            code,
+            settings,
+            number,
+            buffers.bench.as_mut_slice(),
+            buffers.track.as_mut_slice(),
+            buffers.group.as_mut_slice(),
+            &mut sheet,
         );
-        print_group(rt, number, answer, group)?;
+        print_group(rt, number, answer, buffers.group.as_slice())?;
     }
     Ok(())
 }

@@ -1,6 +1,7 @@
 //! Records a callout: one order a line on standard input, on a tape image in memory.
 #![tactic(auto)]
 
+mod buffers;
 mod callout;
 mod contents;
 mod recording;
@@ -11,7 +12,6 @@ use images::packed_image::{PackedImage, STRIDE};
 use layout::settings::Settings;
 use std::alloc::Global;
 use std::io;
-use tape::traits::WORDS;
 
 /// The settings of the recording.
 const SETTINGS: Settings = Settings {
@@ -22,8 +22,8 @@ const SETTINGS: Settings = Settings {
 /// The callout on standard input.
 fn read_callout(rt: &(impl Input + AllocGlobal), heap: Global) -> io::Result<Callout> {
     let mut callout = Callout::new(heap);
-    for line in rt.lines(heap) {
-        callout.add(line?.as_str())?;
+    for (passed, line) in rt.lines(heap).enumerate() {
+        callout.add(heap, passed.saturating_add(1), line?.as_str())?;
     }
     Ok(callout)
 }
@@ -32,20 +32,10 @@ fn run(rt: &HostRuntime) -> io::Result<()> {
     let heap = rt.alloc();
     let callout = read_callout(rt, heap)?;
     let mut memory = vec![in heap; 0u8; 92 * STRIDE]?;
-    let mut buffer = vec![in heap; 0u16; WORDS]?;
-    let mut bench = vec![in heap; 0u8; 138_048]?;
-    let mut group = vec![in heap; 0u8; 126_632]?;
     let mut tape = PackedImage {
         memory: memory.as_mut_slice(),
     };
-    let (group, bench, buffer) = (
-        group.as_mut_slice(),
-        bench.as_mut_slice(),
-        buffer.as_mut_slice(),
-    );
-    recording::record(
-        rt, heap, &mut tape, &Plain, SETTINGS, &callout, group, bench, buffer,
-    )
+    recording::record(rt, heap, &mut tape, &Plain, SETTINGS, &callout)
 }
 
 fn main(rt: HostRuntime) -> io::Result<()> {

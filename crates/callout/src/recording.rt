@@ -1,4 +1,5 @@
-use crate::callout::{Callout, Order};
+use crate::buffers::Buffers;
+use crate::callout::Callout;
 use crate::contents;
 use calls::fault::Decline;
 use channel::line::LineCode;
@@ -10,39 +11,23 @@ use std::alloc::{AllocError, Global};
 use std::io;
 use tape::traits::Recordable;
 
-/// The bytes of a record.
-fn part(bytes: &[u8], from: usize, to: usize) -> &[u8] {
-    if from <= to && to <= bytes.len() {
-        &bytes[from..to]
-    } else {
-        &[]
-    }
-}
-
 /// The calls of a callout.
 fn calls_of(heap: Global, callout: &Callout) -> Result<Vec<Asked<'_>>, AllocError> {
-    let bytes = callout.bytes.as_slice();
-    let mut calls = Vec::new(heap);
-    for order in callout.orders.iter() {
-        let call = match *order {
-            Order::Record { from, to } => Call::Record(part(bytes, from, to)),
-            Order::Mark(kind) => Call::Mark(kind),
-            Order::Warn => Call::Warn,
-            Order::Unclear => continue,
-        };
-        calls.push(Asked {
-            call,
+    callout
+        .orders
+        .iter()
+        .map(|order| Asked {
+            call: order.call(),
             answer: Ok(()),
-        })?;
-    }
-    Ok(calls)
+        })
+        .collect(heap)
 }
 
-/// Prints an answer behind what was asked.
-fn print_answer(rt: &impl Print, answer: Result<(), Decline>) -> io::Result<()> {
-    match answer {
-        Ok(()) => println!(rt; ": carried out"),
-        Err(decline) => {
+/// Prints, behind what was asked, whether it was declined.
+fn print_answer(rt: &impl Print, decline: Option<Decline>) -> io::Result<()> {
+    match decline {
+        None => println!(rt; ": carried out"),
+        Some(decline) => {
             let number = decline.number();
             println!(rt; ": declined with {number}, {decline:?}")
         }
@@ -59,7 +44,7 @@ fn print_asked(rt: &impl Print, asked: &Asked) -> io::Result<()> {
         Call::Mark(kind) => print!(rt; "  mark of kind {kind}")?,
         Call::Warn => print!(rt; "  warning")?,
     }
-    print_answer(rt, asked.answer)
+    print_answer(rt, asked.answer.err())
 }
 
 /// Prints which lines were not understood.
@@ -75,13 +60,7 @@ fn print_closed(rt: &impl Print, closed: ClosedRecording) -> io::Result<()> {
     let groups = closed.groups;
     let items = closed.items;
     print!(rt; "  closing, with {groups} groups stored and {items} items")?;
-    print_answer(
-        rt,
-        match closed.decline {
-            None => Ok(()),
-            Some(decline) => Err(decline),
-        },
-    )
+    print_answer(rt, closed.decline)
 }
 
 /// Records a callout on a tape, and prints the answers, the counts, and the index of each group.
@@ -92,27 +71,23 @@ pub(crate) fn record<T: Recordable, C: LineCode>(
     code: &C,
     settings: Settings,
     callout: &Callout,
-    group: &mut [u8],
-    bench: &mut [u8],
-    buffer: &mut [u16],
 ) -> io::Result<()> {
+    let mut buffers = Buffers::new(heap)?;
     let mut calls = calls_of(heap, callout)?;
-    let list = calls.as_mut_slice();
-    let closed = record_all(tape, code, settings, list, group, bench, buffer);
+    let closed = record_all(
+        tape,
+        code,
+        settings,
+        calls.as_mut_slice(),
+        buffers.group.as_mut_slice(),
+        buffers.bench.as_mut_slice(),
+        buffers.track.as_mut_slice(),
+    );
     println!(rt; "Recording")?;
     print_unclear(rt, callout.unclear.as_slice())?;
     for asked in calls.iter() {
         print_asked(rt, asked)?;
     }
     print_closed(rt, closed)?;
-    contents::print_groups(
-        rt,
-        tape,
-        code,
-        settings,
-        closed.groups,
-        group,
-        bench,
-        buffer,
-    )
+    contents::print_groups(rt, tape, code, settings, closed.groups, &mut buffers)
 }

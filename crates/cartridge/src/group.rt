@@ -1,3 +1,4 @@
+use crate::buffers::Buffers;
 use crate::{show, wear};
 use channel::line::LineCode;
 use layout::settings::Settings;
@@ -14,15 +15,16 @@ const SETTINGS: Settings = Settings {
 };
 
 /// What the group begins with.
-const TEXT: &[u8; 28] = b"Sector 7 searched, all clear";
+const TEXT: &str = "Sector 7 searched, all clear";
 
-const OLD: &[u8; 28] = b"Sector 9: this was last year";
+/// What an older group begins with.
+const OLD: &str = "Sector 9: this was last year";
 
 /// A group that begins with a text, and goes on with zeros.
-fn compose(text: &[u8; 28], group: &mut [u8]) {
+fn compose(text: &str, group: &mut [u8]) {
     group.fill(0);
-    if group.len() >= 28 {
-        group[0..28].copy_from_slice(text);
+    if let Some(head) = group.get_mut(0..text.len()) {
+        head.copy_from_slice(text.as_bytes());
     }
 }
 
@@ -32,11 +34,17 @@ fn write<T: Recordable, C: LineCode>(
     tape: &mut T,
     code: &C,
     number: u16,
-    group: &[u8],
-    bench: &mut [u8],
-    buffer: &mut [u16],
+    buffers: &mut Buffers,
 ) -> io::Result<()> {
-    let answer = write_group(tape, code, SETTINGS, number, group, bench, buffer);
+    let answer = write_group(
+        tape,
+        code,
+        SETTINGS,
+        number,
+        buffers.group.as_slice(),
+        buffers.bench.as_mut_slice(),
+        buffers.track.as_mut_slice(),
+    );
     show::print_written(rt, number, answer)
 }
 
@@ -46,19 +54,26 @@ fn read<T: Recordable, C: LineCode>(
     what: &str,
     tape: &T,
     code: &C,
-    group: &mut [u8],
-    bench: &mut [u8],
-    buffer: &mut [u16],
+    buffers: &mut Buffers,
 ) -> io::Result<()> {
     let mut sheet = LossSheet::new();
-    group.fill(0);
-    let answer = read_group(tape, code, SETTINGS, 1, bench, buffer, group, &mut sheet);
+    buffers.group.as_mut_slice().fill(0);
+    let answer = read_group(
+        tape,
+        code,
+        SETTINGS,
+        1,
+        buffers.bench.as_mut_slice(),
+        buffers.track.as_mut_slice(),
+        buffers.group.as_mut_slice(),
+        &mut sheet,
+    );
     println!(rt; "  {what}")?;
     show::print_sheet(rt, &sheet)?;
-    if group.len() < 28 {
-        return Ok(());
+    match buffers.group.get(0..TEXT.len()) {
+        Some(text) => show::print_answer(rt, answer, text),
+        None => Ok(()),
     }
-    show::print_answer(rt, answer, &group[0..28])
 }
 
 /// Writes a group as group 1 of an older recording, which lies on the 46 tracks behind.
@@ -66,9 +81,7 @@ fn write_old<T: Recordable, C: LineCode>(
     rt: &impl Print,
     tape: &mut T,
     code: &C,
-    group: &[u8],
-    bench: &mut [u8],
-    buffer: &mut [u16],
+    buffers: &mut Buffers,
 ) -> io::Result<()> {
     let mut older = Window {
         below: tape,
@@ -76,7 +89,7 @@ fn write_old<T: Recordable, C: LineCode>(
         count: 46,
     };
     println!(rt; "An older recording")?;
-    write(rt, &mut older, code, 1, group, bench, buffer)
+    write(rt, &mut older, code, 1, buffers)
 }
 
 /// Writes groups 2 and 3 with one text, then group 1 with another.
@@ -84,16 +97,14 @@ fn write_three<T: Recordable, C: LineCode>(
     rt: &impl Print,
     tape: &mut T,
     code: &C,
-    group: &mut [u8],
-    bench: &mut [u8],
-    buffer: &mut [u16],
+    buffers: &mut Buffers,
 ) -> io::Result<()> {
     println!(rt; "Writing")?;
-    compose(OLD, group);
-    write(rt, tape, code, 2, group, bench, buffer)?;
-    write(rt, tape, code, 3, group, bench, buffer)?;
-    compose(TEXT, group);
-    write(rt, tape, code, 1, group, bench, buffer)
+    compose(OLD, buffers.group.as_mut_slice());
+    write(rt, tape, code, 2, buffers)?;
+    write(rt, tape, code, 3, buffers)?;
+    compose(TEXT, buffers.group.as_mut_slice());
+    write(rt, tape, code, 1, buffers)
 }
 
 /// Reads group 1 as it was written, and then worn.
@@ -101,21 +112,17 @@ fn read_worn<T: Recordable, C: LineCode>(
     rt: &impl Print,
     tape: &mut T,
     code: &C,
-    group: &mut [u8],
-    bench: &mut [u8],
-    buffer: &mut [u16],
+    buffers: &mut Buffers,
 ) -> io::Result<()> {
     println!(rt; "Reading group 1")?;
-    read(rt, "as it was written", tape, code, group, bench, buffer)?;
-    wear::wear_group(tape, [1, 40], buffer);
+    read(rt, "as it was written", tape, code, buffers)?;
+    wear::wear_group(tape, [1, 40], buffers.track.as_mut_slice());
     read(
         rt,
         "worn: every track scratched, tracks 1 and 40 blank",
         tape,
         code,
-        group,
-        bench,
-        buffer,
+        buffers,
     )
 }
 
@@ -125,12 +132,10 @@ fn read_with_another<T: Recordable, C: LineCode>(
     what: &str,
     tape: &mut T,
     code: &C,
-    group: &mut [u8],
-    bench: &mut [u8],
-    buffer: &mut [u16],
+    buffers: &mut Buffers,
 ) -> io::Result<()> {
-    wear::copy_track(tape, 46 + 1, 1, buffer);
-    read(rt, what, tape, code, group, bench, buffer)
+    wear::copy_track(tape, 46 + 1, 1, buffers.track.as_mut_slice());
+    read(rt, what, tape, code, buffers)
 }
 
 /// Puts an older recording behind group 1, and reads group 1 with a track of it.
@@ -138,21 +143,17 @@ fn read_with_older<T: Recordable, C: LineCode>(
     rt: &impl Print,
     tape: &mut T,
     code: &C,
-    group: &mut [u8],
-    bench: &mut [u8],
-    buffer: &mut [u16],
+    buffers: &mut Buffers,
 ) -> io::Result<()> {
-    compose(OLD, group);
-    write_old(rt, tape, code, group, bench, buffer)?;
+    compose(OLD, buffers.group.as_mut_slice());
+    write_old(rt, tape, code, buffers)?;
     println!(rt; "Reading group 1")?;
     read_with_another(
         rt,
         "track 1 of the older recording in the place of track 1",
         tape,
         code,
-        group,
-        bench,
-        buffer,
+        buffers,
     )
 }
 
@@ -161,20 +162,16 @@ pub(crate) fn tell<T: Recordable, C: LineCode>(
     rt: &impl Print,
     tape: &mut T,
     code: &C,
-    group: &mut [u8],
-    bench: &mut [u8],
-    buffer: &mut [u16],
+    buffers: &mut Buffers,
 ) -> io::Result<()> {
-    write_three(rt, tape, code, group, bench, buffer)?;
-    read_worn(rt, tape, code, group, bench, buffer)?;
+    write_three(rt, tape, code, buffers)?;
+    read_worn(rt, tape, code, buffers)?;
     read_with_another(
         rt,
         "track 1 of group 2 in the place of track 1",
         tape,
         code,
-        group,
-        bench,
-        buffer,
+        buffers,
     )?;
-    read_with_older(rt, tape, code, group, bench, buffer)
+    read_with_older(rt, tape, code, buffers)
 }

@@ -2,16 +2,14 @@ use channel::sheet;
 use channel::sheet::{CheckedSheet, RawSheet};
 use std::io;
 
-const NUMBERS: usize = 512;
-
 /// A sheet for the example: the words of a byte are 300 + 2b in state 0 and 301 + 2b in state 1, and a byte with an odd
-/// count of ones turns the state.
+/// count of ones turns the state. Test data; programs share no crate, so `vectors` has it too.
 fn example() -> [u32; 512] {
     let mut numbers = [0u32; 512];
-    for i in 0..NUMBERS {
+    for (i, number) in numbers.iter_mut().enumerate() {
+        let i = i as u32;
         let odd = (i / 2).count_ones() % 2;
-        let state = (i % 2) as u32;
-        numbers[i] = 300 + i as u32 + 1024 * ((state + odd) % 2);
+        *number = 300 + i + 1024 * ((i % 2 + odd) % 2);
     }
     numbers
 }

@@ -5,24 +5,28 @@ const NO_BYTE: u16 = 1000;
 
 /// Changes some words of a track: a run of byte words of block `b`, so that two C1 words are lost.
 fn scratch(words: &mut [u16], b: usize) {
-    for s in 0..5 {
-        let at = 36usize.wrapping_mul(b % 128).wrapping_add(4 + s);
-        if at < words.len() {
-            words[at] = NO_BYTE;
-        }
+    let start = 36 * (b % 128) + 4;
+    if let Some(run) = words.get_mut(start..start + 5) {
+        run.fill(NO_BYTE);
     }
 }
 
-/// Scratches each track of group 1 but the two that are to be blanked, and blanks those.
-pub(crate) fn wear_group<T: Recordable>(tape: &mut T, blank: [usize; 2], buffer: &mut [u16]) {
+/// Scratches each track of group 1.
+fn scratch_tracks<T: Recordable>(tape: &mut T, buffer: &mut [u16]) {
     for t in 0..46 {
         if tape.fetch(t, buffer).is_ok() {
             scratch(buffer, 3 * t);
             let _ = tape.store(t, buffer);
         }
     }
-    let _ = tape.blank(blank[0]);
-    let _ = tape.blank(blank[1]);
+}
+
+/// Scratches each track of group 1, and blanks these two.
+pub(crate) fn wear_group<T: Recordable>(tape: &mut T, blank: [usize; 2], buffer: &mut [u16]) {
+    scratch_tracks(tape, buffer);
+    for t in blank {
+        let _ = tape.blank(t);
+    }
 }
 
 /// Copies a track over another.

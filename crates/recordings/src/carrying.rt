@@ -1,10 +1,9 @@
-use crate::memory::Memory;
+use crate::memory::Workspace;
 use crate::pattern::record_of;
 use crate::plan::{Item, Lent, Plan, Seen, Step};
-use crate::{memory, outline, show};
+use crate::{outline, show};
 use calls::fault::Decline;
 use channel::plain::Plain;
-use layout::settings::Settings;
 use recorder::closed::ClosedRecording;
 use recorder::list::whole::record_all;
 use recorder::list::{Asked, Call};
@@ -14,14 +13,6 @@ use std::alloc::{AllocError, Global};
 use std::io;
 use tape::traits::Recordable;
 use tape::window::Window;
-
-/// The number of an answer, 0 where the call was carried out.
-pub(crate) fn number_of(answer: Result<(), Decline>) -> u8 {
-    match answer {
-        Ok(()) => 0,
-        Err(decline) => decline.number(),
-    }
-}
 
 /// A call with its bytes.
 fn call_of(item: Item, bytes: &[u8]) -> Call<'_> {
@@ -38,29 +29,13 @@ fn list_of<'a>(
     steps: &[Step],
     bytes: &'a [u8],
 ) -> Result<Vec<Asked<'a>>, AllocError> {
-    let mut list = Vec::new(heap);
-    for step in steps {
-        list.push(Asked {
+    steps
+        .iter()
+        .map(|step| Asked {
             call: call_of(step.item, bytes),
             answer: Ok(()),
-        })?;
-    }
-    Ok(list)
-}
-
-/// Fills the memory that is lent to a call.
-fn fill(bench: &mut [u8], buffer: &mut [u16]) {
-    bench.fill(memory::BYTE);
-    buffer.fill(memory::WORD);
-}
-
-/// What came of a call with this answer, by what the lent memory holds.
-fn look(answer: Result<(), Decline>, bench: &[u8], buffer: &[u16]) -> Seen {
-    Seen {
-        answer: number_of(answer),
-        bench: Memory::of_bytes(bench),
-        buffer: Memory::of_words(buffer),
-    }
+        })
+        .collect(heap)
 }
 
 /// Carries out a call with what is lent to it.
@@ -69,18 +44,17 @@ fn carry_out<T: Recordable>(
     tape: &mut Window<T>,
     call: Call,
     lent: Lent,
-    bench: &mut [u8],
-    buffer: &mut [u16],
+    workspace: &mut Workspace,
 ) -> Result<(), Decline> {
     tape.count = lent.tracks;
-    let bench_size = lent.bench.min(bench.len());
-    let buffer_size = lent.buffer.min(buffer.len());
+    let bench_size = lent.bench.min(workspace.bench.len());
+    let buffer_size = lent.buffer.min(workspace.track.len());
     open.call(
         tape,
         &Plain,
         call,
-        &mut bench[0..bench_size],
-        &mut buffer[0..buffer_size],
+        &mut workspace.bench[0..bench_size],
+        &mut workspace.track[0..buffer_size],
     )
 }
 
@@ -90,15 +64,17 @@ fn carry_out_all<T: Recordable>(
     tape: &mut Window<T>,
     bytes: &[u8],
     steps: &mut [Step],
-    bench: &mut [u8],
-    buffer: &mut [u16],
+    workspace: &mut Workspace,
 ) {
-    for i in 0..steps.len() {
-        let step = steps[i];
+    for step in steps.iter_mut() {
+        workspace.fill();
         let call = call_of(step.item, bytes);
-        fill(bench, buffer);
-        let answer = carry_out(open, tape, call, step.lent, bench, buffer);
-        steps[i].seen = look(answer, bench, buffer);
+        let answer = carry_out(open, tape, call, step.lent, workspace);
+        step.seen = Some(Seen {
+            answer,
+            bench: workspace.bench_holds(),
+            track: workspace.track_holds(),
+        });
     }
 }
 
@@ -108,28 +84,19 @@ fn run_apart<T: Recordable>(
     bytes: &[u8],
     plan: &mut Plan,
     group: &mut [u8],
-    bench: &mut [u8],
-    buffer: &mut [u16],
-    last_bench: &mut [u8],
-    last_buffer: &mut [u16],
+    workspace: &mut Workspace,
+    last: &mut Workspace,
 ) -> ClosedRecording {
     let mut open = OpenRecording::make(tape, plan.settings, group);
     let steps = plan.steps.as_mut_slice();
-    carry_out_all(&mut open, tape, bytes, steps, bench, buffer);
+    carry_out_all(&mut open, tape, bytes, steps, workspace);
     tape.count = plan.lent.tracks;
-    open.close(tape, &Plain, last_bench, last_buffer)
-}
-
-/// Makes a recording as a whole list.
-fn run_list<T: Recordable>(
-    tape: &mut T,
-    settings: Settings,
-    list: &mut [Asked],
-    group: &mut [u8],
-    bench: &mut [u8],
-    buffer: &mut [u16],
-) -> ClosedRecording {
-    record_all(tape, &Plain, settings, list, group, bench, buffer)
+    open.close(
+        tape,
+        &Plain,
+        last.bench.as_mut_slice(),
+        last.track.as_mut_slice(),
+    )
 }
 
 /// Makes the recording of a plan with single calls, prints what came of them, and tells how many groups were stored.
@@ -140,25 +107,13 @@ fn make_apart<T: Recordable>(
     bytes: &[u8],
     plan: &mut Plan,
     group: &mut [u8],
-    bench: &mut [u8],
-    buffer: &mut [u16],
+    workspace: &mut Workspace,
 ) -> io::Result<u16> {
-    let mut last_bench = vec![in heap; memory::BYTE; plan.lent.bench]?;
-    let mut last_buffer = vec![in heap; memory::WORD; plan.lent.buffer]?;
-    let (last_bench, last_buffer) = (last_bench.as_mut_slice(), last_buffer.as_mut_slice());
-    let closed = run_apart(
-        tape,
-        bytes,
-        plan,
-        group,
-        bench,
-        buffer,
-        last_bench,
-        last_buffer,
-    );
+    let mut last = Workspace::new(heap, plan.lent.bench, plan.lent.buffer)?;
+    let closed = run_apart(tape, bytes, plan, group, workspace, &mut last);
     show::print_steps(rt, plan.steps.as_slice())?;
     show::print_closed(rt, closed)?;
-    show::print_memory(rt, last_bench, last_buffer, group)?;
+    show::print_memory(rt, &last, group)?;
     Ok(closed.groups)
 }
 
@@ -168,17 +123,23 @@ fn make_whole<T: Recordable>(
     heap: Global,
     tape: &mut T,
     bytes: &[u8],
-    plan: &mut Plan,
+    plan: &Plan,
     group: &mut [u8],
-    bench: &mut [u8],
-    buffer: &mut [u16],
+    workspace: &mut Workspace,
 ) -> io::Result<u16> {
     let mut list = list_of(heap, plan.steps.as_slice(), bytes)?;
-    let asked = list.as_mut_slice();
-    let closed = run_list(tape, plan.settings, asked, group, bench, buffer);
+    let closed = record_all(
+        tape,
+        &Plain,
+        plan.settings,
+        list.as_mut_slice(),
+        group,
+        workspace.bench.as_mut_slice(),
+        workspace.track.as_mut_slice(),
+    );
     show::print_list(rt, list.as_slice())?;
     show::print_closed(rt, closed)?;
-    show::print_memory(rt, bench, buffer, group)?;
+    show::print_memory(rt, workspace, group)?;
     Ok(closed.groups)
 }
 
@@ -190,19 +151,15 @@ pub(crate) fn run<T: Recordable>(
     bytes: &[u8],
     plan: &mut Plan,
     group: &mut [u8],
-    bench: &mut [u8],
-    buffer: &mut [u16],
+    workspace: &mut Workspace,
 ) -> io::Result<()> {
-    group.fill(memory::BYTE);
-    fill(bench, buffer);
-    let checked = number_of(check(tape, plan.settings, group));
+    let checked = check(tape, plan.settings, group);
     show::print_check(rt, checked, plan.unclear)?;
     let groups = if plan.apart {
-        make_apart(rt, heap, tape, bytes, plan, group, bench, buffer)?
+        make_apart(rt, heap, tape, bytes, plan, group, workspace)?
     } else {
-        make_whole(rt, heap, tape, bytes, plan, group, bench, buffer)?
+        make_whole(rt, heap, tape, bytes, plan, group, workspace)?
     };
     tape.count = plan.tracks;
-    let hex = plan.hex;
-    outline::print_groups(rt, tape, plan.settings, groups, hex, group, bench, buffer)
+    outline::print_groups(rt, tape, plan, groups, group, workspace)
 }

@@ -11,6 +11,7 @@ mod pattern;
 mod plan;
 mod show;
 
+use crate::memory::{BYTE, Workspace};
 use crate::plan::Plan;
 use images::word_image::{STRIDE, WordImage};
 use std::alloc::Global;
@@ -27,9 +28,8 @@ const BENCH: usize = 138_048;
 /// Makes the recording of a plan on a new tape with new memory.
 fn run_plan(rt: &impl Print, heap: Global, bytes: &[u8], plan: &mut Plan) -> io::Result<()> {
     let mut memory = vec![in heap; 0u16; plan.tracks.min(MOST_TRACKS) * STRIDE]?;
-    let mut group = vec![in heap; 0u8; plan.group]?;
-    let mut bench = vec![in heap; 0u8; BENCH]?;
-    let mut buffer = vec![in heap; 0u16; WORDS]?;
+    let mut group = vec![in heap; BYTE; plan.group]?;
+    let mut workspace = Workspace::new(heap, BENCH, WORDS)?;
     let mut tape = Window {
         below: WordImage {
             memory: memory.as_mut_slice(),
@@ -44,8 +44,7 @@ fn run_plan(rt: &impl Print, heap: Global, bytes: &[u8], plan: &mut Plan) -> io:
         bytes,
         plan,
         group.as_mut_slice(),
-        bench.as_mut_slice(),
-        buffer.as_mut_slice(),
+        &mut workspace,
     )
 }
 

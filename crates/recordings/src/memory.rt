@@ -1,3 +1,6 @@
+use std::alloc::{AllocError, Global};
+use std::fmt;
+
 /// What lent memory holds after a call.
 #[derive(Clone, Copy)]
 pub(crate) enum Memory {
@@ -13,58 +16,66 @@ pub(crate) enum Memory {
 pub(crate) const BYTE: u8 = 165;
 
 /// What a track buffer is filled with before a call.
-pub(crate) const WORD: u16 = 677;
-
-/// How many bytes are this one.
-fn count_bytes(bytes: &[u8], byte: u8) -> usize {
-    let mut count = 0usize;
-    for b in bytes {
-        if *b == byte {
-            count = count.saturating_add(1);
-        }
-    }
-    count
-}
-
-/// How many words are this one.
-fn count_words(words: &[u16], word: u16) -> usize {
-    let mut count = 0usize;
-    for w in words {
-        if *w == word {
-            count = count.saturating_add(1);
-        }
-    }
-    count
-}
-
-/// By how many of so many elements are zero, and as they were.
-fn judge(length: usize, zeros: usize, kept: usize) -> Memory {
-    if zeros == length {
-        Memory::Zero
-    } else if kept == length {
-        Memory::Kept
-    } else {
-        Memory::Changed
-    }
-}
+const WORD: u16 = 677;
 
 impl Memory {
-    /// What bytes hold.
-    pub(crate) fn of_bytes(bytes: &[u8]) -> Memory {
-        judge(bytes.len(), count_bytes(bytes, 0), count_bytes(bytes, BYTE))
+    /// What elements hold that were filled with this one.
+    fn of<T: Copy + PartialEq + Default>(elements: &[T], filler: T) -> Memory {
+        let zero = T::default();
+        if elements.iter().all(|element| *element == zero) {
+            Memory::Zero
+        } else if elements.iter().all(|element| *element == filler) {
+            Memory::Kept
+        } else {
+            Memory::Changed
+        }
     }
 
-    /// What a track buffer holds.
-    pub(crate) fn of_words(words: &[u16]) -> Memory {
-        judge(words.len(), count_words(words, 0), count_words(words, WORD))
+    /// What a group buffer holds.
+    pub(crate) fn of_group(group: &[u8]) -> Memory {
+        Memory::of(group, BYTE)
     }
+}
 
-    /// The word for it.
-    pub(crate) fn name(self) -> &'static str {
-        match self {
+impl fmt::Display for Memory {
+    fn fmt<W: fmt::Write>(&self, f: &mut fmt::Formatter<W>) -> fmt::Result {
+        f.write_str(match self {
             Memory::Zero => "zero",
             Memory::Kept => "kept",
             Memory::Changed => "CHANGED",
-        }
+        })
+    }
+}
+
+/// The memory beside the group buffer that calls are lent.
+#[derive(Drop)]
+pub(crate) struct Workspace {
+    pub(crate) bench: Vec<u8>,
+    pub(crate) track: Vec<u16>,
+}
+
+impl Workspace {
+    /// A bench of so many bytes and a track buffer of so many words, both filled.
+    pub(crate) fn new(heap: Global, bench: usize, track: usize) -> Result<Workspace, AllocError> {
+        Ok(Workspace {
+            bench: vec![in heap; BYTE; bench]?,
+            track: vec![in heap; WORD; track]?,
+        })
+    }
+
+    /// Fills both again.
+    pub(crate) fn fill(&mut self) {
+        self.bench.as_mut_slice().fill(BYTE);
+        self.track.as_mut_slice().fill(WORD);
+    }
+
+    /// What the bench holds.
+    pub(crate) fn bench_holds(&self) -> Memory {
+        Memory::of(self.bench.as_slice(), BYTE)
+    }
+
+    /// What the track buffer holds.
+    pub(crate) fn track_holds(&self) -> Memory {
+        Memory::of(self.track.as_slice(), WORD)
     }
 }

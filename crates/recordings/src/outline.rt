@@ -1,16 +1,14 @@
+use crate::memory::Workspace;
 use crate::pattern::{byte_after, goes_on};
+use crate::plan::Plan;
 use channel::plain::Plain;
 use index::entry::{Content, IndexEntry};
 use index::reader::{IndexReader, TABLE};
-use layout::settings::Settings;
 use losses::fault::ReadFault;
 use losses::sheet::LossSheet;
 use reading::group::read_group;
 use std::io;
 use tape::traits::Playable;
-
-/// Entries of a group's index, at the most.
-const ENTRIES: usize = 31_650;
 
 /// The groups of a recording whose outlines are all printed; of a longer one, the first and the last two.
 const FEW: u16 = 6;
@@ -27,6 +25,15 @@ pub(crate) struct Trail {
 }
 
 impl Trail {
+    /// What is known before the first group.
+    fn new() -> Trail {
+        Trail {
+            first: 0,
+            next: 0,
+            sound: true,
+        }
+    }
+
     /// Goes on with a part of a record.
     fn pass(&mut self, bytes: &[u8]) {
         if !goes_on(bytes, self.next) {
@@ -86,47 +93,27 @@ fn print_entry(rt: &impl Print, entry: IndexEntry) -> io::Result<()> {
     print!(rt; " {letter}{count}{warned}")
 }
 
-/// Prints the next entry of an index and goes on with it; false behind the last.
-fn print_next(rt: &impl Print, trail: &mut Trail, reader: &mut IndexReader) -> io::Result<bool> {
-    match reader.next() {
-        Some(entry) => {
-            trail.follow(entry);
-            print_entry(rt, entry)?;
-            Ok(true)
-        }
-        None => Ok(false),
-    }
-}
-
 /// Prints the entries of an index, and goes on with each.
-fn print_index(rt: &impl Print, trail: &mut Trail, reader: &mut IndexReader) -> io::Result<()> {
-    for _ in 0..ENTRIES {
-        if !print_next(rt, trail, reader)? {
-            return Ok(());
-        }
+fn print_index(rt: &impl Print, trail: &mut Trail, reader: IndexReader) -> io::Result<()> {
+    for entry in reader {
+        trail.follow(entry);
+        print_entry(rt, entry)?;
     }
     Ok(())
 }
 
 /// Goes on with the entries of a group's index.
-fn pass_index(trail: &mut Trail, group: &[u8]) {
-    if let Some(mut reader) = IndexReader::new(group) {
-        for _ in 0..ENTRIES {
-            match reader.next() {
-                Some(entry) => trail.follow(entry),
-                None => return,
-            }
-        }
+fn pass_index(trail: &mut Trail, reader: IndexReader) {
+    for entry in reader {
+        trail.follow(entry);
     }
 }
 
 /// The number that bytes are, the highest first.
 fn number_in(bytes: &[u8]) -> u64 {
-    let mut number = 0u64;
-    for byte in bytes {
-        number = number.wrapping_mul(256).wrapping_add(*byte as u64);
-    }
-    number
+    bytes.iter().fold(0u64, |number, byte| {
+        number.wrapping_mul(256).wrapping_add(*byte as u64)
+    })
 }
 
 /// Prints the numbers of a table: group and entries, the totals, and the last byte.
@@ -163,8 +150,8 @@ fn print_outline(
     group: &[u8],
 ) -> io::Result<()> {
     print!(rt; "  {number}:")?;
-    if let Some(mut reader) = IndexReader::new(group) {
-        print_index(rt, trail, &mut reader)?;
+    if let Some(reader) = IndexReader::new(group) {
+        print_index(rt, trail, reader)?;
     }
     if group.len() >= 126_632 {
         print_table(rt, &group[TABLE..])?;
@@ -190,7 +177,9 @@ fn print_group(
         return println!(rt; "  {number}: NOT READ, {decline}");
     }
     if groups > FEW && number > 1 && number < groups - 1 {
-        pass_index(trail, group);
+        if let Some(reader) = IndexReader::new(group) {
+            pass_index(trail, reader);
+        }
         return Ok(());
     }
     print_outline(rt, number, trail, hex, group)
@@ -200,38 +189,35 @@ fn print_group(
 pub(crate) fn print_groups<T: Playable>(
     rt: &impl Print,
     tape: &T,
-    settings: Settings,
+    plan: &Plan,
     groups: u16,
-    hex: bool,
     group: &mut [u8],
-    bench: &mut [u8],
-    buffer: &mut [u16],
+    workspace: &mut Workspace,
 ) -> io::Result<()> {
-    let mut trail = Trail {
-        first: 0,
-        next: 0,
-        sound: true,
-    };
-    for number in 1..groups as u32 + 1 {
-        let number = (number & 0xffff) as u16;
+    let mut trail = Trail::new();
+    for number in 1..=groups {
         let mut sheet = LossSheet::new();
         let answer = read_group(
-            tape, &Plain, settings, number, bench, buffer, group, &mut sheet,
+            tape,
+            &Plain,
+            plan.settings,
+            number,
+            workspace.bench.as_mut_slice(),
+            workspace.track.as_mut_slice(),
+            group,
+            &mut sheet,
         );
-        print_group(rt, number, groups, answer, &mut trail, hex, group)?;
+        print_group(rt, number, groups, answer, &mut trail, plan.hex, group)?;
     }
-    print_tape(rt, count_written(tape, buffer), trail.sound)
+    let written = count_written(tape, workspace.track.as_mut_slice());
+    print_tape(rt, written, trail.sound)
 }
 
 /// How many tracks of a tape are written.
 fn count_written<T: Playable>(tape: &T, buffer: &mut [u16]) -> usize {
-    let mut count = 0usize;
-    for track in 0..tape.length() {
-        if tape.fetch(track, buffer).is_ok() {
-            count = count.saturating_add(1);
-        }
-    }
-    count
+    (0..tape.length())
+        .filter(|track| tape.fetch(*track, buffer).is_ok())
+        .count()
 }
 
 /// Prints how many tracks are written, and whether the bytes are those of the records.

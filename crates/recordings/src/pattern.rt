@@ -6,10 +6,8 @@ pub(crate) const LENGTH: usize = 16_777_216 + 256;
 
 /// Writes the pattern.
 pub(crate) fn fill(bytes: &mut [u8]) {
-    let mut next = 0u8;
-    for byte in bytes.iter_mut() {
-        *byte = next;
-        next = next.wrapping_add(7);
+    for (place, byte) in bytes.iter_mut().enumerate() {
+        *byte = byte_after(0, place);
     }
 }
 
@@ -21,14 +19,10 @@ pub(crate) fn record_of(bytes: &[u8], count: usize) -> &[u8] {
 
 /// Whether bytes are the pattern from a byte on.
 pub(crate) fn goes_on(bytes: &[u8], first: u8) -> bool {
-    let mut next = first;
-    for byte in bytes {
-        if *byte != next {
-            return false;
-        }
-        next = next.wrapping_add(7);
-    }
-    true
+    bytes
+        .iter()
+        .enumerate()
+        .all(|(place, byte)| *byte == byte_after(first, place))
 }
 
 /// The byte of the pattern that follows so many bytes after this one.

@@ -1,6 +1,9 @@
 use crate::memory::Memory;
+use crate::show::number_of;
+use calls::fault::Decline;
 use layout::settings::Settings;
 use std::alloc::{AllocError, Global};
+use std::fmt;
 
 /// A call of a plan.
 #[derive(Clone, Copy)]
@@ -24,17 +27,54 @@ pub(crate) struct Lent {
 /// What came of a call: its answer, and what the lent memory holds.
 #[derive(Clone, Copy)]
 pub(crate) struct Seen {
-    pub(crate) answer: u8,
+    pub(crate) answer: Result<(), Decline>,
     pub(crate) bench: Memory,
-    pub(crate) buffer: Memory,
+    pub(crate) track: Memory,
 }
 
-/// A call with what is lent to it, and what came of it.
+impl fmt::Display for Seen {
+    fn fmt<W: fmt::Write>(&self, f: &mut fmt::Formatter<W>) -> fmt::Result {
+        write!(
+            f,
+            "answer {}, bench {}, track buffer {}",
+            number_of(self.answer.err()),
+            self.bench,
+            self.track
+        )
+    }
+}
+
+/// A call with what is lent to it, and what came of it once it was made.
 #[derive(Clone, Copy)]
 pub(crate) struct Step {
     pub(crate) item: Item,
     pub(crate) lent: Lent,
-    pub(crate) seen: Seen,
+    pub(crate) seen: Option<Seen>,
+}
+
+/// What a word of a line asks for.
+#[derive(Clone, Copy)]
+enum Word {
+    /// A tape of so many tracks, all of them lent.
+    Tracks(usize),
+    /// A group buffer of so many bytes.
+    Group(usize),
+    /// The tap of the settings.
+    Tap(u16),
+    /// The start of the settings.
+    Start(u16),
+    /// The end of each group in hex.
+    Hex,
+    /// Single calls.
+    Apart,
+    /// So many tracks lent from now on.
+    LentTracks(usize),
+    /// So many bytes of the bench lent from now on.
+    LentBench(usize),
+    /// So many words of the track buffer lent from now on.
+    LentBuffer(usize),
+    /// A call.
+    Call(Item),
 }
 
 /// A recording as a line gives it.
@@ -56,25 +96,31 @@ pub(crate) struct Plan {
     pub(crate) unclear: usize,
 }
 
-/// What nothing came of yet.
-pub(crate) const UNSEEN: Seen = Seen {
-    answer: 255,
-    bench: Memory::Changed,
-    buffer: Memory::Changed,
-};
-
 /// The lower sixteen bits of a number.
 fn low_word(number: usize) -> u16 {
     (number % 65_536) as u16
 }
 
-/// The call that a word asks for.
-fn item_of(name: &str, number: usize) -> Option<Item> {
-    match name {
-        "record" => Some(Item::Record(number)),
-        "mark" => Some(Item::Mark((number % 256) as u8)),
-        "warn" => Some(Item::Warn),
-        _ => None,
+impl Word {
+    /// The meaning of a name, or of a name and a number; none where it has none.
+    fn read(word: &str) -> Option<Word> {
+        let (name, number) = word.split_once('=').unwrap_or((word, "0"));
+        let number = number.parse::<usize>().unwrap_or(0);
+        match name {
+            "tracks" => Some(Word::Tracks(number)),
+            "group" => Some(Word::Group(number)),
+            "tap" => Some(Word::Tap(low_word(number))),
+            "start" => Some(Word::Start(low_word(number))),
+            "hex" => Some(Word::Hex),
+            "apart" => Some(Word::Apart),
+            "lent" => Some(Word::LentTracks(number)),
+            "bench" => Some(Word::LentBench(number)),
+            "buffer" => Some(Word::LentBuffer(number)),
+            "record" => Some(Word::Call(Item::Record(number))),
+            "mark" => Some(Word::Call(Item::Mark((number % 256) as u8))),
+            "warn" => Some(Word::Call(Item::Warn)),
+            _ => None,
+        }
     }
 }
 
@@ -100,33 +146,10 @@ impl Plan {
         }
     }
 
-    /// Takes a word on how the recording is made; false where it is none.
-    fn set_making(&mut self, name: &str, number: usize) -> bool {
-        match name {
-            "tracks" => {
-                self.tracks = number;
-                self.lent.tracks = number;
-            }
-            "group" => self.group = number,
-            "tap" => self.settings.tap = low_word(number),
-            "start" => self.settings.start = low_word(number),
-            "hex" => self.hex = true,
-            _ => return false,
-        }
-        true
-    }
-
-    /// Takes a word on what is lent from now on; false where it is none.
-    fn set_lent(&mut self, name: &str, number: usize) -> bool {
-        match name {
-            "lent" => self.lent.tracks = number,
-            "bench" => self.lent.bench = number,
-            "buffer" => self.lent.buffer = number,
-            "apart" => {}
-            _ => return false,
-        }
+    /// Lends so many tracks, bytes and words from now on, to single calls.
+    fn lend(&mut self, lent: Lent) {
+        self.lent = lent;
         self.apart = true;
-        true
     }
 
     /// Adds a call.
@@ -134,20 +157,28 @@ impl Plan {
         self.steps.push(Step {
             item,
             lent: self.lent,
-            seen: UNSEEN,
+            seen: None,
         })?;
         Ok(())
     }
 
-    /// Takes a word, that is a name, or a name and a number.
-    fn take(&mut self, word: &str) -> Result<(), AllocError> {
-        let (name, number) = word.split_once('=').unwrap_or((word, "0"));
-        let number = number.parse::<usize>().unwrap_or(0);
-        if let Some(item) = item_of(name, number) {
-            return self.add(item);
-        }
-        if !self.set_making(name, number) && !self.set_lent(name, number) {
-            self.unclear = self.unclear.saturating_add(1);
+    /// Takes what a word asks for.
+    fn take(&mut self, word: Word) -> Result<(), AllocError> {
+        let lent = self.lent;
+        match word {
+            Word::Tracks(tracks) => {
+                self.tracks = tracks;
+                self.lent.tracks = tracks;
+            }
+            Word::Group(bytes) => self.group = bytes,
+            Word::Tap(tap) => self.settings.tap = tap,
+            Word::Start(start) => self.settings.start = start,
+            Word::Hex => self.hex = true,
+            Word::Apart => self.apart = true,
+            Word::LentTracks(tracks) => self.lend(Lent { tracks, ..lent }),
+            Word::LentBench(bench) => self.lend(Lent { bench, ..lent }),
+            Word::LentBuffer(buffer) => self.lend(Lent { buffer, ..lent }),
+            Word::Call(item) => self.add(item)?,
         }
         Ok(())
     }
@@ -156,7 +187,10 @@ impl Plan {
     pub(crate) fn read(heap: Global, words: &str) -> Result<Plan, AllocError> {
         let mut plan = Plan::new(heap);
         for word in words.split_whitespace() {
-            plan.take(word)?;
+            match Word::read(word) {
+                Some(word) => plan.take(word)?,
+                None => plan.unclear = plan.unclear.saturating_add(1),
+            }
         }
         Ok(plan)
     }

@@ -1,31 +1,38 @@
-use crate::carrying::number_of;
-use crate::memory::Memory;
+use crate::memory::{Memory, Workspace};
 use crate::plan::Step;
+use calls::fault::Decline;
 use recorder::closed::ClosedRecording;
 use recorder::list::Asked;
 use std::io;
 
-/// Prints how many words were not understood.
-fn print_unclear(rt: &impl Print, unclear: usize) -> io::Result<()> {
-    println!(rt; "  {unclear} words NOT UNDERSTOOD")
+/// The number of an answer, 0 where the call was carried out.
+pub(crate) fn number_of(decline: Option<Decline>) -> u8 {
+    decline.map_or(0, |decline| decline.number())
 }
 
-/// Prints the answer of the check for making where it gives a number, or that words were not understood.
-pub(crate) fn print_check(rt: &impl Print, checked: u8, unclear: usize) -> io::Result<()> {
+/// Prints the answer of the check for making where it is declined, or that words were not understood.
+pub(crate) fn print_check(
+    rt: &impl Print,
+    checked: Result<(), Decline>,
+    unclear: usize,
+) -> io::Result<()> {
     if unclear != 0 {
-        return print_unclear(rt, unclear);
+        return println!(rt; "  {unclear} words NOT UNDERSTOOD");
     }
-    if checked == 0 {
-        return Ok(());
+    match checked {
+        Ok(()) => Ok(()),
+        Err(decline) => {
+            let number = decline.number();
+            println!(rt; "  check for making {number}")
+        }
     }
-    println!(rt; "  check for making {checked}")
 }
 
 /// Prints the answers of a list of calls.
 pub(crate) fn print_list(rt: &impl Print, list: &[Asked]) -> io::Result<()> {
     print!(rt; "  answers")?;
     for asked in list {
-        let answer = number_of(asked.answer);
+        let answer = number_of(asked.answer.err());
         print!(rt; " {answer}")?;
     }
     println!(rt; "")
@@ -34,10 +41,10 @@ pub(crate) fn print_list(rt: &impl Print, list: &[Asked]) -> io::Result<()> {
 /// Prints what came of single calls.
 pub(crate) fn print_steps(rt: &impl Print, steps: &[Step]) -> io::Result<()> {
     for step in steps {
-        let answer = step.seen.answer;
-        let bench = step.seen.bench.name();
-        let buffer = step.seen.buffer.name();
-        println!(rt; "  answer {answer}, bench {bench}, track buffer {buffer}")?;
+        match step.seen {
+            Some(seen) => println!(rt; "  {seen}")?,
+            None => println!(rt; "  NOT CARRIED OUT")?,
+        }
     }
     Ok(())
 }
@@ -46,22 +53,14 @@ pub(crate) fn print_steps(rt: &impl Print, steps: &[Step]) -> io::Result<()> {
 pub(crate) fn print_closed(rt: &impl Print, closed: ClosedRecording) -> io::Result<()> {
     let groups = closed.groups;
     let items = closed.items;
-    let decline = match closed.decline {
-        None => 0,
-        Some(decline) => decline.number(),
-    };
+    let decline = number_of(closed.decline);
     print!(rt; "  closed {decline}, {groups} groups, {items} items")
 }
 
 /// Prints what the memory holds after closing.
-pub(crate) fn print_memory(
-    rt: &impl Print,
-    bench: &[u8],
-    buffer: &[u16],
-    group: &[u8],
-) -> io::Result<()> {
-    let bench = Memory::of_bytes(bench).name();
-    let buffer = Memory::of_words(buffer).name();
-    let group = Memory::of_bytes(group).name();
-    println!(rt; "; bench {bench}, track buffer {buffer}, group buffer {group}")
+pub(crate) fn print_memory(rt: &impl Print, workspace: &Workspace, group: &[u8]) -> io::Result<()> {
+    let bench = workspace.bench_holds();
+    let track = workspace.track_holds();
+    let group = Memory::of_group(group);
+    println!(rt; "; bench {bench}, track buffer {track}, group buffer {group}")
 }

@@ -6,9 +6,10 @@ use images::word_image::{STRIDE, WordImage};
 use layout::settings::Settings;
 use losses::sheet::LossSheet;
 use reading::group::read_group;
+use std::alloc::{AllocError, Global};
 use std::time::Instant;
 use std::{env, io};
-use tape::traits::Recordable;
+use tape::traits::{Recordable, WORDS};
 use writing::group::write_group;
 
 const SETTINGS: Settings = Settings {
@@ -16,64 +17,73 @@ const SETTINGS: Settings = Settings {
     start: 12345,
 };
 
-/// Bytes that look random.
+/// The memory that the calls are lent: for a group, for a bench, and for a track.
+#[derive(Drop)]
+struct Buffers {
+    group: Vec<u8>,
+    bench: Vec<u8>,
+    track: Vec<u16>,
+}
+
+impl Buffers {
+    /// A group whose bytes look random, and zeros.
+    fn new(heap: Global) -> Result<Buffers, AllocError> {
+        let mut group = vec![in heap; 0u8; 126_632]?;
+        noise(group.as_mut_slice());
+        Ok(Buffers {
+            group,
+            bench: vec![in heap; 0u8; 138_048]?,
+            track: vec![in heap; 0u16; WORDS]?,
+        })
+    }
+}
+
+/// Bytes that look random. Test data; programs share no crate, so `vectors` has it too.
 fn noise(bytes: &mut [u8]) {
     let mut x = 7u32;
-    for b in bytes.iter_mut() {
+    for byte in bytes.iter_mut() {
         x = x.wrapping_mul(1_664_525).wrapping_add(1_013_904_223);
-        *b = (x >> 24) as u8;
+        *byte = (x >> 24) as u8;
     }
 }
 
 /// Writes the group again and again, and says how often that was done.
-fn write_many<T: Recordable>(
-    tape: &mut T,
-    turns: u32,
-    group: &[u8],
-    bench: &mut [u8],
-    buffer: &mut [u16],
-) -> u32 {
-    let mut done = 0u32;
-    for _ in 0..turns {
-        if write_group(tape, &Plain, SETTINGS, 1, group, bench, buffer).is_ok() {
-            done = done.saturating_add(1);
-        }
-    }
-    done
+fn write_many<T: Recordable>(tape: &mut T, turns: u32, buffers: &mut Buffers) -> usize {
+    let group = buffers.group.as_slice();
+    let (bench, track) = (buffers.bench.as_mut_slice(), buffers.track.as_mut_slice());
+    (0..turns)
+        .filter(|_| write_group(tape, &Plain, SETTINGS, 1, group, bench, track).is_ok())
+        .count()
 }
 
 /// Reads the group again and again, and says how often that was done.
-fn read_many<T: Recordable>(
-    tape: &T,
-    turns: u32,
-    group: &mut [u8],
-    bench: &mut [u8],
-    buffer: &mut [u16],
-) -> u32 {
-    let mut done = 0u32;
-    for _ in 0..turns {
-        let mut sheet = LossSheet::new();
-        if read_group(tape, &Plain, SETTINGS, 1, bench, buffer, group, &mut sheet).is_ok() {
-            done = done.saturating_add(1);
-        }
-    }
-    done
+fn read_many<T: Recordable>(tape: &T, turns: u32, buffers: &mut Buffers) -> usize {
+    let group = buffers.group.as_mut_slice();
+    let (bench, track) = (buffers.bench.as_mut_slice(), buffers.track.as_mut_slice());
+    (0..turns)
+        .filter(|_| {
+            let mut sheet = LossSheet::new();
+            read_group(tape, &Plain, SETTINGS, 1, bench, track, group, &mut sheet).is_ok()
+        })
+        .count()
 }
 
-/// The number of groups that the first argument asks for.
-fn turns(rt: &HostRuntime) -> io::Result<u32> {
-    for (i, word) in env::args(rt)?.enumerate() {
-        if i == 1 {
-            return Ok(word.parse::<u32>().unwrap_or(0));
-        }
-    }
-    Ok(0)
+/// The number of groups that the first argument asks for, if it asks for any.
+fn turns(rt: &HostRuntime) -> io::Result<Option<u32>> {
+    let word = env::args(rt)?.nth(1);
+    let turns = word.and_then(|word| word.parse::<u32>().ok());
+    Ok(turns.filter(|turns| *turns > 0))
 }
 
-/// Prints what was done in how many milliseconds.
-fn print(rt: &impl Print, what: &str, done: u32, millis: u128) -> io::Result<()> {
+/// Prints how many groups the work has done, and how fast.
+fn measure<F: FnOnce() -> usize>(rt: &HostRuntime, what: &str, work: F) -> io::Result<()>
+    requires { F.IsAlwaysCallable work }
+{
+    let start = Instant::now(rt)?;
+    let done = work();
+    let millis = start.elapsed(rt)?.as_millis();
     let bytes = done as u64 as u128 * 126_632;
-    let tenths = if millis == 0 { 0 } else { bytes / 100 / millis };
+    let tenths = (bytes / 100).checked_div(millis).unwrap_or(0);
     println!(rt;
         "{what}: {done} groups in {millis} ms, {}.{} MB/s",
         tenths / 10,
@@ -84,37 +94,17 @@ fn print(rt: &impl Print, what: &str, done: u32, millis: u128) -> io::Result<()>
 fn run(rt: &HostRuntime, turns: u32) -> io::Result<()> {
     let heap = rt.alloc();
     let mut memory = vec![in heap; 0u16; 46 * STRIDE]?;
-    let mut buffer = vec![in heap; 0u16; 4608]?;
-    let mut bench = vec![in heap; 0u8; 138_048]?;
-    let mut group = vec![in heap; 0u8; 126_632]?;
-    noise(group.as_mut_slice());
+    let mut buffers = Buffers::new(heap)?;
     let mut tape = WordImage {
         memory: memory.as_mut_slice(),
     };
-    let start = Instant::now(rt)?;
-    let written = write_many(
-        &mut tape,
-        turns,
-        group.as_slice(),
-        bench.as_mut_slice(),
-        buffer.as_mut_slice(),
-    );
-    print(rt, "write", written, start.elapsed(rt)?.as_millis())?;
-    let start = Instant::now(rt)?;
-    let read = read_many(
-        &tape,
-        turns,
-        group.as_mut_slice(),
-        bench.as_mut_slice(),
-        buffer.as_mut_slice(),
-    );
-    print(rt, "read", read, start.elapsed(rt)?.as_millis())
+    measure(rt, "write", || write_many(&mut tape, turns, &mut buffers))?;
+    measure(rt, "read", || read_many(&tape, turns, &mut buffers))
 }
 
 fn main(rt: HostRuntime) -> io::Result<()> {
-    let turns = turns(&rt)?;
-    if turns == 0 {
-        return println!(rt; "speed GROUPS: writes and reads that many groups");
+    match turns(&rt)? {
+        Some(turns) => run(&rt, turns),
+        None => println!(rt; "speed GROUPS: writes and reads that many groups"),
     }
-    run(&rt, turns)
 }

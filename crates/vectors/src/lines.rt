@@ -5,33 +5,25 @@ use channel::sheet::{CheckedSheet, RawSheet};
 use channel::state::State;
 use std::io;
 
-/// How many of the 512 bytes and states come back from their words.
-fn come_back<C: LineCode>(code: &C) -> usize {
-    let mut count = 0usize;
-    for byte in 0..=255u8 {
-        for state in [State::Zero, State::One] {
-            let (word, _next) = code.encode(state, byte);
-            if code.decode(word) == Some(byte) {
-                count = count.saturating_add(1);
-            }
-        }
-    }
-    count
+/// How many bytes come back from their words in a state.
+fn come_back<C: LineCode>(code: &C, state: State) -> usize {
+    (0..=255u8)
+        .filter(|byte| {
+            let (word, _next) = code.encode(state, *byte);
+            code.decode(word) == Some(*byte)
+        })
+        .count()
 }
 
 /// How many numbers of 16 bits give a byte.
 fn give_a_byte<C: LineCode>(code: &C) -> usize {
-    let mut count = 0usize;
-    for word in 0..=65_535u16 {
-        if code.decode(word).is_some() {
-            count = count.saturating_add(1);
-        }
-    }
-    count
+    (0..=u16::MAX)
+        .filter(|word| code.decode(*word).is_some())
+        .count()
 }
 
 fn show<C: LineCode>(rt: &impl Print, what: &str, code: &C) -> io::Result<()> {
-    let back = come_back(code);
+    let back = come_back(code, State::Zero).saturating_add(come_back(code, State::One));
     let bytes = give_a_byte(code);
     let (word, next) = code.encode(State::Zero, 200);
     println!(rt;
@@ -39,12 +31,14 @@ fn show<C: LineCode>(rt: &impl Print, what: &str, code: &C) -> io::Result<()> {
     )
 }
 
-/// A sheet whose words are multiples of `factor`, mod 1,024: of the byte, or of the byte and state.
-fn sheet_of(factor: u32, by_byte: bool) -> [u32; 512] {
+/// A sheet with the words that a rule gives, mod 1,024. The rule takes twice the byte plus the state.
+fn sheet_of<F: Fn(u32) -> u32>(rule: F) -> [u32; 512]
+    requires { F.IsAlwaysCallable rule }
+{
     let mut numbers = [0u32; 512];
-    for i in 0..512 {
-        let k = if by_byte { i / 2 } else { i };
-        numbers[i] = (k as u32).wrapping_mul(factor) % 1024 + 1024 * (i as u32 / 3 % 2);
+    for (i, number) in numbers.iter_mut().enumerate() {
+        let i = i as u32;
+        *number = rule(i) % 1024 + 1024 * (i / 3 % 2);
     }
     numbers
 }
@@ -56,10 +50,8 @@ fn checked(
     numbers: &[u32],
     into: &mut CheckedSheet,
 ) -> io::Result<()> {
-    let number = match sheet::check(&RawSheet { numbers }, into) {
-        Ok(()) => 0,
-        Err(fault) => fault.number(),
-    };
+    let fault = sheet::check(&RawSheet { numbers }, into).err();
+    let number = fault.map_or(0, |fault| fault.number());
     println!(rt; "  {what}: {number}")?;
     show(rt, "then", into)
 }
@@ -69,21 +61,26 @@ fn good_sheets(rt: &impl Print, sheet: &mut CheckedSheet) -> io::Result<()> {
     checked(
         rt,
         "a word for each byte and state",
-        &sheet_of(515, false),
+        &sheet_of(|i| i.wrapping_mul(515)),
         sheet,
     )?;
-    checked(rt, "one word for both states", &sheet_of(3, true), sheet)
+    checked(
+        rt,
+        "one word for both states",
+        &sheet_of(|i| (i / 2).wrapping_mul(3)),
+        sheet,
+    )
 }
 
 /// Sheets with words under two bytes.
 fn shared_words(rt: &impl Print, sheet: &mut CheckedSheet) -> io::Result<()> {
-    checked(rt, "words under two bytes", &sheet_of(4, false), sheet)?;
-    let mut wide = sheet_of(4, false);
-    wide[511] = u32::MAX;
+    let mut numbers = sheet_of(|i| i.wrapping_mul(4));
+    checked(rt, "words under two bytes", &numbers, sheet)?;
+    numbers[511] = u32::MAX;
     checked(
         rt,
         "a number above 2047, and words under two bytes",
-        &wide,
+        &numbers,
         sheet,
     )
 }

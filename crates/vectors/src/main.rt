@@ -3,13 +3,14 @@
 
 mod groups;
 mod lines;
+mod noise;
 mod tapes;
 mod words;
 
 use std::io;
 
 fn main(rt: HostRuntime) -> io::Result<()> {
-    words::run(&rt)?;
+    words::run(&rt, rt.alloc())?;
     lines::run(&rt)?;
     tapes::run(&rt)?;
     groups::run(&rt)

@@ -1,16 +1,35 @@
+use crate::noise::Noise;
 use images::inhibited::InhibitedImage;
 use images::packed_image::PackedImage;
 use images::word_image::WordImage;
+use std::alloc::{AllocError, Global};
 use std::io;
+use tape::fault::TapeFault;
 use tape::traits::{Playable, Recordable, WORDS};
 use tape::window::Window;
 
-/// Numbers that look random, each below 1,024.
-fn noise(words: &mut [u16], seed: u32) {
-    let mut x = seed;
-    for w in words.iter_mut() {
-        x = x.wrapping_mul(1_664_525).wrapping_add(1_013_904_223);
-        *w = (x / 65_536 % 1024) as u16;
+/// The words to store and those that are fetched.
+#[derive(Drop)]
+struct Buffers {
+    words: Vec<u16>,
+    fetched: Vec<u16>,
+}
+
+impl Buffers {
+    /// Zeros, a track of each.
+    fn new(heap: Global) -> Result<Buffers, AllocError> {
+        Ok(Buffers {
+            words: vec![in heap; 0u16; WORDS]?,
+            fetched: vec![in heap; 0u16; WORDS]?,
+        })
+    }
+
+    /// Makes the words to store look random, each below 1,024.
+    fn shuffle(&mut self, seed: u32) {
+        let mut noise = Noise(seed);
+        for word in self.words.iter_mut() {
+            *word = (noise.next() / 65_536 % 1024) as u16;
+        }
     }
 }
 
@@ -23,6 +42,11 @@ fn digest(words: &[u16]) -> u64 {
     sum
 }
 
+/// The number of an answer, 0 where the call was carried out.
+fn number_of(answer: Result<(), TapeFault>) -> u8 {
+    answer.err().map_or(0, |fault| fault.number())
+}
+
 /// What fetch answers, as its number or 0, and what it delivers.
 fn fetch<T: Playable>(
     rt: &impl Print,
@@ -32,10 +56,7 @@ fn fetch<T: Playable>(
     buffer: &mut [u16],
 ) -> io::Result<()> {
     buffer.fill(7);
-    let number = match tape.fetch(track, buffer) {
-        Ok(()) => 0,
-        Err(fault) => fault.number(),
-    };
+    let number = number_of(tape.fetch(track, buffer));
     let found = digest(buffer);
     println!(rt; "  {what}: {number}, words {found}")
 }
@@ -48,10 +69,7 @@ fn store<T: Recordable>(
     track: usize,
     buffer: &[u16],
 ) -> io::Result<()> {
-    let number = match tape.store(track, buffer) {
-        Ok(()) => 0,
-        Err(fault) => fault.number(),
-    };
+    let number = number_of(tape.store(track, buffer));
     println!(rt; "  {what}: {number}")
 }
 
@@ -63,48 +81,34 @@ fn fetches<T: Playable>(rt: &impl Print, tape: &T, buffer: &mut [u16]) -> io::Re
 }
 
 /// Stores and fetches on any recordable tape of three tracks.
-fn stores<T: Recordable>(
-    rt: &impl Print,
-    tape: &mut T,
-    words: &mut [u16],
-    buffer: &mut [u16],
-) -> io::Result<()> {
+fn stores<T: Recordable>(rt: &impl Print, tape: &mut T, buffers: &mut Buffers) -> io::Result<()> {
     let length = tape.length();
-    noise(words, 1);
+    buffers.shuffle(1);
+    let words = buffers.words.as_slice();
     println!(rt; "  {length} tracks, words {}", digest(words))?;
     store(rt, "store track 1", tape, 1, words)?;
     store(rt, "store track 3", tape, 3, words)?;
-    fetches(rt, tape, buffer)
+    fetches(rt, tape, buffers.fetched.as_mut_slice())
 }
 
 /// Blanks on it, after a store that is declined.
-fn blanks<T: Recordable>(
-    rt: &impl Print,
-    tape: &mut T,
-    words: &mut [u16],
-    buffer: &mut [u16],
-) -> io::Result<()> {
-    if words.len() > 4 {
-        words[4] = 1024;
+fn blanks<T: Recordable>(rt: &impl Print, tape: &mut T, buffers: &mut Buffers) -> io::Result<()> {
+    if let Some(word) = buffers.words.get_mut(4) {
+        *word = 1024;
     }
-    store(rt, "store the word 1024", tape, 1, words)?;
+    store(rt, "store the word 1024", tape, 1, buffers.words.as_slice())?;
     let blanked = tape.blank(1).is_ok();
     let beyond = tape.blank(3).is_ok();
     println!(rt; "  blank track 1: {blanked}, track 3: {beyond}")?;
-    fetch(rt, "fetch track 1", tape, 1, buffer)
+    fetch(rt, "fetch track 1", tape, 1, buffers.fetched.as_mut_slice())
 }
 
 /// The same calls on any recordable tape of three tracks.
-fn calls<T: Recordable>(
-    rt: &impl Print,
-    tape: &mut T,
-    words: &mut [u16],
-    buffer: &mut [u16],
-) -> io::Result<()> {
-    stores(rt, tape, words, buffer)?;
-    blanks(rt, tape, words, buffer)?;
-    noise(words, 2);
-    store(rt, "store track 2", tape, 2, words)
+fn calls<T: Recordable>(rt: &impl Print, tape: &mut T, buffers: &mut Buffers) -> io::Result<()> {
+    stores(rt, tape, buffers)?;
+    blanks(rt, tape, buffers)?;
+    buffers.shuffle(2);
+    store(rt, "store track 2", tape, 2, buffers.words.as_slice())
 }
 
 /// A window by hostile numbers.
@@ -144,16 +148,16 @@ fn odd_numbers(rt: &impl Print, memory: &mut [u16], buffer: &mut [u16]) -> io::R
         buffer,
     )?;
     fetch(rt, "a flag of 2", &InhibitedImage { memory }, 1, buffer)?;
-    if buffer.len() > 4607 {
-        fetch(
+    match buffer.get_mut(0..WORDS - 1) {
+        Some(short) => fetch(
             rt,
             "a buffer of 4607 numbers",
             &InhibitedImage { memory },
             0,
-            &mut buffer[0..4607],
-        )?;
+            short,
+        ),
+        None => Ok(()),
     }
-    Ok(())
 }
 
 /// The same calls on a word image and on a packed image.
@@ -161,13 +165,12 @@ fn images(
     rt: &impl Print,
     numbers: &mut [u16],
     bytes: &mut [u8],
-    words: &mut [u16],
-    buffer: &mut [u16],
+    buffers: &mut Buffers,
 ) -> io::Result<()> {
     println!(rt; "word image")?;
-    calls(rt, &mut WordImage { memory: numbers }, words, buffer)?;
+    calls(rt, &mut WordImage { memory: numbers }, buffers)?;
     println!(rt; "packed image")?;
-    calls(rt, &mut PackedImage { memory: bytes }, words, buffer)
+    calls(rt, &mut PackedImage { memory: bytes }, buffers)
 }
 
 /// A word image that is only played.
@@ -182,14 +185,12 @@ pub(crate) fn run(rt: &HostRuntime) -> io::Result<()> {
     let heap = rt.alloc();
     let mut numbers = vec![in heap; 0u16; 4 * 4609 - 1]?;
     let mut bytes = vec![in heap; 0u8; 4 * 5761 - 1]?;
-    let mut words = vec![in heap; 0u16; WORDS]?;
-    let mut buffer = vec![in heap; 0u16; WORDS]?;
+    let mut buffers = Buffers::new(heap)?;
     images(
         rt,
         numbers.as_mut_slice(),
         bytes.as_mut_slice(),
-        words.as_mut_slice(),
-        buffer.as_mut_slice(),
+        &mut buffers,
     )?;
-    played(rt, numbers.as_mut_slice(), buffer.as_mut_slice())
+    played(rt, numbers.as_mut_slice(), buffers.fetched.as_mut_slice())
 }
