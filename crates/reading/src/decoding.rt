@@ -52,6 +52,7 @@ fn take_block<C: LineCode>(
 {
     let all = block_lost(code, words, position, b);
     let start = BLOCK_WORDS * b + (BLOCK_WORDS - BLOCK_BYTES);
+    // The array by its index: of what is written through a zip nothing would be known after the loop.
     for (s, word) in words[start..start + BLOCK_BYTES].iter().enumerate() {
         let byte = code.decode(*word);
         array[BLOCK_BYTES * b + s] = byte.unwrap_or(0);

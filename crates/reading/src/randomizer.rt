@@ -14,6 +14,7 @@ fn put_bytes(rows: &[u8; ROWS], d: usize, mask: u8, group: &mut [u8; GROUP])
     ensures { Spread rows.now group.old group.new d mask 22 }
 {
     let at = data_place(d);
+    // By number: the bytes lie a stride apart, and of what a stepped iter_mut writes nothing would be known after the loop.
     for f in 0..SUB_GROUPS {
         group[SUB_GROUP * f + d] = rows[2 * ROW * f + at] ^ mask;
     }

@@ -11,6 +11,7 @@ use channel::line::LineCode;
 use layout::sizes::{BENCH, TRACK_WORDS};
 use tape::traits::Recordable;
 
+// Record and mark have each their own body: what they test and lay differs, and a trait over both would need a law for either.
 impl<'a> OpenRecording<'a> {
     /// Gives every further entry the warning.
     pub fn warn(&mut self) -> Result<(), Decline>
