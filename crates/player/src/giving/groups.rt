@@ -10,6 +10,7 @@ use crate::giving::Giving;
 use crate::measuring::measure;
 use index::reader::IndexReader;
 use index::walk::{Ending, Walk};
+use layout::sizes::GROUP;
 use playing::fault::GroupCause;
 use playing::rows::Row;
 
@@ -17,11 +18,10 @@ impl Giving {
     /// Gives a group that was walked without a fault, if there is room for it.
     pub(crate) fn give(
         &mut self,
-        group: &[u8],
+        group: &[u8; GROUP],
         output: &mut [u8],
         rows: &mut [Row],
     ) -> Result<(), GroupCause>
-        requires size { length group.now ≡ 126632 }
         requires few { number 2 126602 group.now ≤ 31650 }
         requires roomy { Roomy (shelf self.old output.old rows.old) (read_group group.now).entries }
         ensures answer { result ≡ room_for (shelf self.old output.old rows.old) (read_group group.now).entries }
@@ -45,12 +45,11 @@ impl Giving {
     pub(crate) fn next(
         &mut self,
         walk: &mut Walk,
-        group: &[u8],
+        group: &[u8; GROUP],
         output: &mut [u8],
         rows: &mut [Row],
     ) -> Result<Ending, GroupCause>
-        requires size { length group.now ≡ 126632 }
-        requires somewhere { Somewhere walk.old (shelf self.old output.old rows.old) }
+        requires { Somewhere walk.old (shelf self.old output.old rows.old) }
         ensures { (out : List ℕ) (old : List RowIn) (b : Between) → Stands out old b walk.old (shelf self.old output.old rows.old) → Went out old b (standing walk.old).0 (slice_index group.now 126616) walk.new (shelf self.new output.new rows.new) result (walk_group (standing walk.old).0 b (read_group group.now)) }
     {
         let ending = walk.group(group)?;
