@@ -17,6 +17,8 @@ use losses::sheet::{Cause, LossRow, LossSheet};
 use tape::traits::Playable;
 
 /// Fetches a track, and reads it into its row; a blank one is lost.
+// The row is kept as a slice: the check does not see that what is written through an array of a part of the rows comes
+// back to them.
 fn read_one<T: Playable, C: LineCode>(
     tape: &T,
     code: &C,

@@ -16,6 +16,7 @@ const C1_CHECKS: [usize; 4] = [31, 30, 29, 28];
 fn put_c2(array: &mut [u8; ARRAY])
     ensures { (p : ℕ) → p < 4096 → slice_index array.new p ≡ c2_filled array.old p }
 {
+    // As a slice, of which the check knows all through the loop that its numbers are bytes.
     let bytes: &mut [u8] = array;
     for c in 0..128 {
         let at = Interleaving {
