@@ -2,6 +2,7 @@ use std::alloc::{AllocError, Global};
 use tape::traits::WORDS;
 
 /// The memory that the calls are lent: for a group, for a bench, and for a track.
+/// Programs share no crate, so each has its own.
 #[derive(Drop)]
 pub(crate) struct Buffers {
     pub(crate) group: Vec<u8>,

@@ -153,13 +153,13 @@ fn print_outline(
     if let Some(reader) = IndexReader::new(group) {
         print_index(rt, trail, reader)?;
     }
-    if group.len() >= 126_632 {
-        print_table(rt, &group[TABLE..])?;
-        if hex {
-            print_hex(rt, &group[TABLE - 8..])?;
-        }
+    if let Some(table) = group.get(TABLE..) {
+        print_table(rt, table)?;
     }
-    Ok(())
+    match group.get(TABLE - 8..) {
+        Some(end) if hex => print_hex(rt, end),
+        _ => Ok(()),
+    }
 }
 
 /// Prints the outline of a group where it was read and is not left out.

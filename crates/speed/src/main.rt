@@ -18,6 +18,7 @@ const SETTINGS: Settings = Settings {
 };
 
 /// The memory that the calls are lent: for a group, for a bench, and for a track.
+/// Programs share no crate, so each has its own.
 #[derive(Drop)]
 struct Buffers {
     group: Vec<u8>,

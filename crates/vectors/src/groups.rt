@@ -20,7 +20,7 @@ const SETTINGS: Settings = Settings {
     start: 12345,
 };
 
-/// The memory that writing is lent.
+/// The memory that writing is lent. Programs share no crate, so each has its own.
 #[derive(Drop)]
 struct Buffers {
     group: Vec<u8>,
