@@ -1,3 +1,4 @@
+use layout::sizes::{BENCH, GROUP};
 use std::alloc::{AllocError, Global};
 use tape::traits::WORDS;
 
@@ -14,8 +15,8 @@ impl Buffers {
     /// Zeros, as many as a call needs of each.
     pub(crate) fn new(heap: Global) -> Result<Buffers, AllocError> {
         Ok(Buffers {
-            group: vec![in heap; 0u8; 126_632]?,
-            bench: vec![in heap; 0u8; 138_048]?,
+            group: vec![in heap; 0u8; GROUP]?,
+            bench: vec![in heap; 0u8; BENCH]?,
             track: vec![in heap; 0u16; WORDS]?,
         })
     }

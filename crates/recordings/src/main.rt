@@ -14,6 +14,7 @@ mod show;
 use crate::memory::{BYTE, Workspace};
 use crate::plan::Plan;
 use images::word_image::{STRIDE, WordImage};
+use layout::sizes::BENCH;
 use std::alloc::Global;
 use std::io;
 use tape::traits::WORDS;
@@ -21,9 +22,6 @@ use tape::window::Window;
 
 /// The most tracks of a tape here.
 const MOST_TRACKS: usize = 10_000;
-
-/// The bytes of a bench.
-const BENCH: usize = 138_048;
 
 /// Makes the recording of a plan on a new tape with new memory.
 fn run_plan(rt: &impl Print, heap: Global, bytes: &[u8], plan: &mut Plan) -> io::Result<()> {

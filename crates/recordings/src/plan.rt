@@ -2,6 +2,7 @@ use crate::memory::Memory;
 use crate::show::number_of;
 use calls::fault::Decline;
 use layout::settings::Settings;
+use layout::sizes::{BENCH, GROUP};
 use std::alloc::{AllocError, Global};
 use std::fmt;
 
@@ -132,11 +133,11 @@ impl Plan {
                 tap: 3,
                 start: 12_345,
             },
-            group: 126_632,
+            group: GROUP,
             tracks: 0,
             lent: Lent {
                 tracks: 0,
-                bench: 138_048,
+                bench: BENCH,
                 buffer: 4_608,
             },
             apart: false,

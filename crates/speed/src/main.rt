@@ -4,6 +4,7 @@
 use channel::plain::Plain;
 use images::word_image::{STRIDE, WordImage};
 use layout::settings::Settings;
+use layout::sizes::{BENCH, GROUP};
 use losses::sheet::LossSheet;
 use reading::group::read_group;
 use std::alloc::{AllocError, Global};
@@ -29,11 +30,11 @@ struct Buffers {
 impl Buffers {
     /// A group whose bytes look random, and zeros.
     fn new(heap: Global) -> Result<Buffers, AllocError> {
-        let mut group = vec![in heap; 0u8; 126_632]?;
+        let mut group = vec![in heap; 0u8; GROUP]?;
         noise(group.as_mut_slice());
         Ok(Buffers {
             group,
-            bench: vec![in heap; 0u8; 138_048]?,
+            bench: vec![in heap; 0u8; BENCH]?,
             track: vec![in heap; 0u16; WORDS]?,
         })
     }

@@ -5,6 +5,7 @@ use channel::sheet;
 use channel::sheet::{CheckedSheet, RawSheet};
 use images::packed_image::{PackedImage, STRIDE};
 use layout::settings::Settings;
+use layout::sizes::{BENCH, GROUP};
 use std::alloc::{AllocError, Global};
 use std::io;
 use tape::traits::{Playable, WORDS};
@@ -31,14 +32,14 @@ struct Buffers {
 impl Buffers {
     /// A group whose bytes look random, and zeros.
     fn new(heap: Global) -> Result<Buffers, AllocError> {
-        let mut group = vec![in heap; 0u8; 126_632]?;
+        let mut group = vec![in heap; 0u8; GROUP]?;
         let mut noise = Noise(7);
         for byte in group.iter_mut() {
             *byte = (noise.next() >> 24) as u8;
         }
         Ok(Buffers {
             group,
-            bench: vec![in heap; 0u8; 138_048]?,
+            bench: vec![in heap; 0u8; BENCH]?,
             track: vec![in heap; 0u16; WORDS]?,
         })
     }
