@@ -16,6 +16,8 @@ use losses::fault::ReadFault;
 use losses::sheet::{Cause, LossRow, LossSheet};
 use tape::traits::Playable;
 
+// That the tape has the group is asked of each caller: it is a fact of a number and of a tape together, which no value here has.
+
 /// Fetches a track, and reads it into its row; a blank one is lost.
 // The row is kept as a slice: the check does not see that what is written through an array of a part of the rows comes
 // back to them.

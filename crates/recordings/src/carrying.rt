@@ -155,6 +155,7 @@ pub(crate) fn run<T: Recordable>(
 ) -> io::Result<()> {
     let checked = check(tape, plan.settings, group);
     show::print_check(rt, checked, plan.unclear)?;
+    // No closure in the plan: a word of a line chooses, and each way needs other memory.
     let groups = if plan.apart {
         make_apart(rt, heap, tape, bytes, plan, group, workspace)?
     } else {

@@ -66,6 +66,8 @@ impl Code {
         }
     }
 
+    // That N is at most 255 is asked in each function over N: a const parameter has no invariant.
+
     /// Takes a word of up to `N` bytes out of the memory, and says whether it is one of the code.
     fn holds_gathered<const N: usize>(&self, memory: &[u8], at: Interleaving) -> bool
         requires reaches { Reaches (length memory.now) at.start at.stride self.now.length }

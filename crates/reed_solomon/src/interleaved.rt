@@ -20,6 +20,7 @@ impl Interleaving {
     }
 
     /// Puts a word back where it lies.
+    // The stride is asked for where a word is written, and is not part of the type: a word with stride 0 can be read.
     pub fn scatter(self, memory: &mut [u8], word: &[u8])
         requires reaches { Reaches (length memory.old) self.start self.stride (length word.now) }
         requires stride_nonzero { 0 < self.stride }

@@ -16,6 +16,9 @@ use layout::settings::Settings;
 use layout::sizes::{ARRAY, BENCH, GROUP, ROW, ROWS, TRACK_WORDS, TRACKS};
 use tape::traits::Recordable;
 
+// That the tape has the group is asked of each caller: it is a fact of a number and of a tape together, and each store
+// changes the tape.
+
 /// Stores the track of one row.
 fn store_track<T: Recordable, C: LineCode>(
     tape: &mut T,

@@ -17,6 +17,8 @@ use crate::walk::{Ending, Walk};
 const LAST_BYTE: usize = 126616;
 
 /// Walks the entries that a reader has left, from a group's opening on.
+// The reader's soundness is no part of its type, as a reader may be made over any bytes. No `for`: each turn asks the reader
+// what is left.
 fn walk_entries(
     mut reader: IndexReader,
     limit: usize,

@@ -12,6 +12,7 @@ use index::reader::IndexReader;
 use playing::rows::Row;
 
 /// Copies bytes into the output from a place on.
+// `index` has the same line, privately: a public function would ask its callers for room.
 fn put_bytes(output: &mut [u8], at: usize, bytes: &[u8])
     requires { at + length bytes.now ≤ length output.old }
     ensures { output.new ≡ replaced output.old at bytes.now }
