@@ -99,6 +99,6 @@ pub fn take_entry(index: &[u8]) -> Option<(u8, u32, &[u8])>
     let [rest @ .., flag, high, middle, low] = index else {
         return None;
     };
-    let count = (*high as u32) * 65536 + (*middle as u32) * 256 + (*low as u32);
+    let count = u32::from_be_bytes([0, *high, *middle, *low]);
     Some((*flag, count, rest))
 }

@@ -20,6 +20,7 @@ pub enum Kind {
     /// The end of the index.
     Skip = 0x80,
     /// A flag without a meaning.
+    // No Option around the others: an entry with such a flag is read like any other, and declined at its place in the order.
     Unknown = 0,
 }
 

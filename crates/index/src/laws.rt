@@ -4,30 +4,22 @@ ghost use Rattle.index.specs.Cursors.{ReadsGroup, ReadsAll};
 ghost use Rattle.index.specs.Writing.{OpensEmpty};
 
 /// A group's bytes are 126,632, and give the group again.
-pub fn bytes_stand() -> u8
+pub fn bytes_stand()
     ensures { Reread }
-{
-    0
-}
+{}
 
 /// Walking a group by numbers alone gives the state and the numbers of walking it, and the same fault.
-pub fn numbers_stand() -> u8
+pub fn numbers_stand()
     ensures { Agreed }
-{
-    0
-}
+{}
 
 /// A reader gives a group's entries, one after the other.
-pub fn readers_stand() -> u8
+pub fn readers_stand()
     ensures group { ReadsGroup }
     ensures all { ReadsAll }
-{
-    0
-}
+{}
 
 /// A group of zeros is an open group without entries.
-pub fn writers_stand() -> u8
+pub fn writers_stand()
     ensures { OpensEmpty }
-{
-    0
-}
+{}

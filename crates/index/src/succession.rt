@@ -5,6 +5,8 @@ use crate::kind::Kind;
 
 /// The position in the succession of entries. Inside a record: the sum of its parts so far, and the warning of its
 /// first entry, 0 or 1.
+// Each open position has its own length and warning, so that one match names position and kind; the warning is a number, as in
+// entries.
 #[derive(Clone, Copy)]
 pub enum State {
     /// Outside any record.
@@ -19,6 +21,7 @@ pub enum State {
     Owed { length: u64, warned: u8 },
 }
 
+// The steps change the position in place and match it together with the kind: a rule of the project.
 impl State {
     /// The sum of the open record's parts.
     pub fn parts_sum(self) -> u64

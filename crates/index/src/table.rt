@@ -15,6 +15,7 @@ pub struct Table {
     /// The numbers of items and marks since group 1.
     pub counts: Counts,
     /// 1 in the last group of a recording, else 0.
+    // A number: any byte may stand here, and one above 1 is a fault.
     pub last: u8,
     /// Whether the table ends in 15 zeros.
     pub zeros: bool,

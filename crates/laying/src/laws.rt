@@ -4,31 +4,23 @@ ghost use Rattle.laying.specs.Settled.{Settled};
 
 /// After any calls, carried out or declined, the groups and the open group's entries give the list so far; a
 /// recording that is closed then is read back from its bytes; and a record's last entry stands in the predicted group.
-pub fn recordings_stand() -> u8
+pub fn recordings_stand()
     ensures faithful { Faithful }
     ensures recorded { Recorded }
     ensures predicted { Predicted }
-{
-    0
-}
+{}
 
 /// The index of a recording with no item, and of those with one record of a few lengths.
-pub fn settled_stand() -> u8
+pub fn settled_stand()
     ensures { Settled }
-{
-    0
-}
+{}
 
 /// However many groups the rest of a record may take, from as many as its bytes on, it is laid the same.
-pub fn rests_stand() -> u8
+pub fn rests_stand()
     ensures { BoundFree }
-{
-    0
-}
+{}
 
 /// The open group, completed, is the group that a recording stores.
-pub fn groups_stand() -> u8
+pub fn groups_stand()
     ensures { StoresOpen }
-{
-    0
-}
+{}

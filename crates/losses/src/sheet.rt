@@ -26,6 +26,7 @@ impl Cause {
 }
 
 /// The finding on a track: why it is lost, if it is, and the C2 word of the causes `TooManyLost` and `NoFilling`, else 0 and 0.
+// A row has three values in every case, as the loss sheet of the format has; so m and n stand beside the cause and not within it.
 #[derive(Clone, Copy, PartialEq, Eq, Debug)]
 pub struct LossRow {
     pub cause: Option<Cause>,
@@ -60,6 +61,7 @@ pub struct LossSheet {
 }
 
 /// Writes a finding into one row.
+// The row is lent, so that the others are seen to stay: a rule of the project.
 fn write_row(row: &mut LossRow, finding: LossRow)
     ensures { row.new ≡ finding }
 {

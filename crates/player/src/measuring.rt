@@ -29,6 +29,7 @@ fn finished(content: Content) -> usize
 }
 
 /// How many bytes the entries name that a reader has left, and how many items they finish.
+// The reader's soundness is asked of callers: a reader may be made over any bytes.
 pub(crate) fn measure(reader: IndexReader) -> (usize, usize)
     requires { Sound (cursor_of reader) }
     ensures bytes { result.0 ≡ size_in (remaining (cursor_of reader.entry)) }

@@ -60,6 +60,7 @@ pub(crate) fn correct(array: &mut [u8; ARRAY], lost: &LostWords) -> LossRow
     ensures { Found (erased_in lost.now.marks) (array_in array.old) array.new (cause_number result.cause, result.m, result.n) }
 {
     let mut found = NO_LOSS;
+    // Two loops, left by a label at the first word that fails: a rule of the project.
     'words: for m in 0..4 {
         for n in 0..width(m) {
             let cause = fill_word(array, lost, m, n);

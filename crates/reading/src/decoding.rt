@@ -16,7 +16,7 @@ fn gives(byte: Option<u8>, x: u8) -> bool
     byte == Some(x)
 }
 
-// The number of a block is a plain number below 128: a type for it would be made anew in each turn of a loop over blocks.
+// The number of a block is a plain number below 128: it is the loop's own, and two of its uses are a place and a label.
 
 /// Whether block `b` is lost: its sync word or a label is not the expected one.
 fn block_lost<C: LineCode>(

@@ -17,6 +17,8 @@ use losses::sheet::{Cause, LossRow, LossSheet};
 use tape::traits::Playable;
 
 // That the tape has the group is asked of each caller: it is a fact of a number and of a tape together, which no value here has.
+// Tape, code, bench and track buffer stay apart: a struct that borrows them has to say of each borrow, at each method, that it is
+// still the same one.
 
 /// Fetches a track, and reads it into its row; a blank one is lost.
 // The row is kept as a slice: the check does not see that what is written through an array of a part of the rows comes

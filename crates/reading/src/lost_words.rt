@@ -21,6 +21,8 @@ impl LostWords {
         }
     }
 
+    // A block's number is a plain number below 128, as in decoding.
+
     /// Whether the byte of block `b` and serial `s` is in a lost word.
     pub(crate) fn has(&self, b: usize, s: usize) -> bool
         requires { b < 128 }

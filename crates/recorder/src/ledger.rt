@@ -19,7 +19,7 @@ pub struct Ledger {
     pub(crate) fill: Fill,
     /// The totals since group 1.
     pub(crate) counts: Counts,
-    /// 1 after a warning, else 0.
+    /// 1 after a warning, else 0: a number, as in the entries that it goes into.
     pub(crate) warned: u8,
     ghost first: { 1 ≤ number },
     ghost within: { number ≤ suc (limit - 1) },

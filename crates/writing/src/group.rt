@@ -17,7 +17,8 @@ use layout::sizes::{ARRAY, BENCH, GROUP, ROW, ROWS, TRACK_WORDS, TRACKS};
 use tape::traits::Recordable;
 
 // That the tape has the group is asked of each caller: it is a fact of a number and of a tape together, and each store
-// changes the tape.
+// changes the tape. Tape, code, bench and track buffer stay apart: a struct that borrows them has to say of each borrow, at each
+// method, that it is still the same one.
 
 /// Stores the track of one row.
 fn store_track<T: Recordable, C: LineCode>(

@@ -27,6 +27,8 @@ fn send<C: LineCode>(
     next
 }
 
+// The number of a block is a plain number below 128: it is the loop's own, and part of what each block holds.
+
 /// Puts the words of block `b`, and gives the state after them.
 fn send_block<C: LineCode>(
     code: &C,
@@ -48,6 +50,7 @@ fn send_block<C: LineCode>(
     let after_two = send(code, after_one, w2, words, start + 2);
     let mut state = send(code, after_two, w1 ^ w2, words, start + 3);
     let bytes = &array[BLOCK_BYTES * b..BLOCK_BYTES * b + BLOCK_BYTES];
+    // The words by their index: of what is written through a zip nothing would be known after the loop.
     for (s, byte) in bytes.iter().enumerate() {
         state = send(code, state, *byte, words, start + 4 + s);
     }

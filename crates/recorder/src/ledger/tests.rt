@@ -4,7 +4,7 @@ ghost use Rattle.recorder.specs.Views.{book_of};
 
 use crate::ledger::Ledger;
 use calls::fault::Decline;
-use layout::register::LAST_SETTING;
+use layout::register::Register;
 use layout::settings::Settings;
 use layout::sizes::{BENCH, GROUP, TRACK_WORDS, TRACKS};
 
@@ -15,9 +15,7 @@ const LONGEST: usize = 16_777_215;
 pub(crate) fn test_making(settings: Settings, group: usize, long: bool) -> Result<(), Decline>
     ensures { result ≡ makable settings group long }
 {
-    if settings.tap > LAST_SETTING || settings.start > LAST_SETTING {
-        return Err(Decline::Setting);
-    }
+    Register::new(settings).ok_or(Decline::Setting)?;
     if group != GROUP {
         return Err(Decline::GroupBuffer);
     }

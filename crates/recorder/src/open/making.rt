@@ -7,6 +7,7 @@ use crate::ledger::tests::test_making;
 use crate::open::OpenRecording;
 use calls::fault::Decline;
 use layout::settings::Settings;
+use layout::sizes::TRACKS;
 use tape::traits::Playable;
 
 /// The most groups of a recording.
@@ -16,7 +17,7 @@ const MOST_GROUPS: usize = 65_535;
 pub fn check<T: Playable>(tape: &T, settings: Settings, group: &[u8]) -> Result<(), Decline>
     ensures { result ≡ checked settings (length group.now) (length (T.Playable.tracks tape.now)) }
 {
-    test_making(settings, group.len(), tape.length() >= 46)
+    test_making(settings, group.len(), tape.length() >= TRACKS)
 }
 
 impl<'a> OpenRecording<'a> {
@@ -29,7 +30,7 @@ impl<'a> OpenRecording<'a> {
         if check(tape, settings, group).is_ok() {
             group.fill(0);
         }
-        let limit = (tape.length() / 46).min(MOST_GROUPS) as u16;
+        let limit = (tape.length() / TRACKS).min(MOST_GROUPS) as u16;
         OpenRecording {
             group,
             ledger: Ledger::new(settings, limit),

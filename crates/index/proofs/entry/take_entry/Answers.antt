@@ -9,6 +9,6 @@ returns c =
     record {
       long = h;
       flag = refl;
-      count = number-three c.args.index.now (n - 4 + 1) (n - 3) (n - 2) (n - 1) (omega arith) (omega arith) (omega arith);
+      count = omega (arith, c.from_be_bytes-count.ensures, number-three c.args.index.now (n - 4 + 1) (n - 3) (n - 2) (n - 1) (omega arith) (omega arith) (omega arith));
       rest = refl;
     }
