@@ -23,7 +23,7 @@ const SETTINGS: Settings = Settings {
 fn read_callout(rt: &(impl Input + AllocGlobal), heap: Global) -> io::Result<Callout> {
     let mut callout = Callout::new(heap);
     for (passed, line) in rt.lines(heap).enumerate() {
-        callout.add(heap, passed.saturating_add(1), line?.as_str())?;
+        callout.add(passed.saturating_add(1), line?.as_str())?;
     }
     Ok(callout)
 }

@@ -1,5 +1,5 @@
 use crate::buffers::Buffers;
-use crate::callout::Callout;
+use crate::callout::{Callout, Order};
 use crate::contents;
 use calls::fault::Decline;
 use channel::line::LineCode;
@@ -13,14 +13,24 @@ use tape::traits::Recordable;
 
 /// The calls of a callout.
 fn calls_of(heap: Global, callout: &Callout) -> Result<Vec<Asked<'_>>, AllocError> {
-    callout
-        .orders
-        .iter()
-        .map(|order| Asked {
-            call: order.call(),
+    let mut calls = Vec::with_capacity(heap, callout.orders.len())?;
+    let mut rest = callout.bytes.as_slice();
+    for order in callout.orders.iter() {
+        let call = match *order {
+            Order::Record(count) => {
+                let (bytes, after) = rest.split_at(count.min(rest.len()));
+                rest = after;
+                Call::Record(bytes)
+            }
+            Order::Mark(kind) => Call::Mark(kind),
+            Order::Warn => Call::Warn,
+        };
+        calls.push(Asked {
+            call,
             answer: Ok(()),
-        })
-        .collect(heap)
+        })?;
+    }
+    Ok(calls)
 }
 
 /// Prints, behind what was asked, whether it was declined.

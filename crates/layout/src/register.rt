@@ -1,4 +1,4 @@
-ghost use Rattle.std.specs.Prelude.{◌≡◌, ◌<◌, true, false, MatchOption};
+ghost use Rattle.std.specs.Prelude.{◌≡◌, ◌<◌, ◌≤◌, true, false, MatchOption};
 ghost use Rattle.layout.specs.Randomizer.{step, steps, output, small};
 
 use crate::settings::Settings;
@@ -11,7 +11,6 @@ pub const LAST_SETTING: u16 = 32_767;
 pub struct Register {
     pub tap: u16,
     pub bits: u16,
-    ghost taps: { tap < 32768 },
     ghost few: { bits < 32768 },
 }
 
@@ -38,6 +37,16 @@ fn eight_steps(tap: u16, bits: u16) -> u16
 }
 
 impl Register {
+    /// The register with these bits and any tap; none where the bits are above 32,767.
+    pub fn from_parts(tap: u16, bits: u16) -> Option<Register>
+        ensures { MatchOption result (32768 ≤ bits) (λ r. (bits < 32768) × (r.tap ≡ tap) × (r.bits ≡ bits)) }
+    {
+        if bits > LAST_SETTING {
+            return None;
+        }
+        Some(Register { tap, bits })
+    }
+
     /// The register as it is set before a sub-group; none where a setting is above 32,767.
     pub fn new(settings: Settings) -> Option<Register>
         ensures { MatchOption result (small settings.tap settings.start ≡ false) (λ r. (small settings.tap settings.start ≡ true) × (r.tap ≡ settings.tap) × (r.bits ≡ settings.start)) }

@@ -23,21 +23,21 @@ pub enum Half {
 }
 
 impl Channel {
-    /// 0 for A, 1 for B.
+    /// The number of the channel.
     pub fn number(self) -> usize
         ensures is { result ≡ channel_number self }
         ensures below { result < 2 }
     {
-        self as usize
+        self as usize // 0 for A, 1 for B
     }
 }
 
 impl Half {
-    /// 0 for upper, 1 for lower.
+    /// The number of the half.
     pub fn number(self) -> usize
         ensures is { result ≡ half_number self }
         ensures below { result < 2 }
     {
-        self as usize
+        self as usize // 0 for upper, 1 for lower
     }
 }

@@ -17,7 +17,7 @@ pub enum Cause {
 }
 
 impl Cause {
-    /// The number of the cause; 0 stands for a track that was read.
+    /// The number of the cause.
     pub fn number(self) -> u8
         ensures { result ≡ cause_number (Some self) }
     {
@@ -51,6 +51,22 @@ impl From<Cause> for LossRow {
             m: 0,
             n: 0,
         }
+    }
+}
+
+impl LossRow {
+    /// The number of the cause, 0 where the track was read.
+    pub fn number(self) -> u8
+        ensures { result ≡ cause_number self.cause }
+    {
+        self.cause.map_or(0, |cause| cause.number())
+    }
+
+    /// Whether the track is lost.
+    pub fn is_loss(self) -> bool
+        ensures { result ≡ is_loss self.cause }
+    {
+        self.cause.is_some()
     }
 }
 
@@ -105,6 +121,6 @@ impl LossSheet {
     pub fn is_lost(&self, t: usize) -> bool
         ensures { result ≡ is_loss (slice_index_or self.now.rows t no_loss).cause }
     {
-        self.finding(t).cause.is_some()
+        self.finding(t).is_loss()
     }
 }

@@ -1,8 +1,7 @@
-use Rattle.std.proofs.Common.{◌≡◌, ℕ, ◌+◌, ◌*◌, ◌/◌, ◌%◌, Bool, false, not, ◌||◌, get_or, set, refl, sym, ap, ◌∙◌, ap₂, inl, inr, arith, length-set, get_or-set_other, get_or-set_same}
+use Rattle.std.proofs.Common.{◌≡◌, ℕ, ◌+◌, ◌*◌, ◌/◌, ◌%◌, Bool, false, not, ◌||◌, get_or, set, refl, sym, ap, ◌∙◌, inl, inr, arith, length-set, get_or-set_other, get_or-set_same}
 use Rattle.std.proofs.lemmas.Bool.{cases_eq}
 use Rattle.layout.specs.Reading.{checks}
 use Rattle.reed_solomon.specs.Interleaves.{interleaved}
-use Rattle.reading.proofs.Refills.{checks-is}
 use Rattle.reading.proofs.c1.mark_unchecked.Goals as goal
 
 pub loop-k-init : goal.loop-k-init
@@ -13,10 +12,9 @@ loop-k-preserved c =
     let f : ℕ → Bool = λ k. not (checks 4 (interleaved c.args.array.now (64 * (k / 2) + k % 2) 2 32)) in
     let fs = c.loop-k.mark-items in
     let i = c.loop-k.k in
-    let v : Bool = get_or fs i false || not c.holds_interleaved.result in
+    let v : Bool = c.is_lost.result in
     let e : v ≡ (get_or c.args.lost.now.marks i false || f i) =
-    ap₂ (λ a b. a || not b) (c.loop-k.invariant.rest i (omega arith))
-    (checks-is 4 (interleaved c.args.array.now (64 * (i / 2) + i % 2) 2 32) c.holds_interleaved.result c.holds_interleaved.ensures) in
+    c.is_lost.ensures ∙ ap (λ a. a || f i) (c.loop-k.invariant.rest i (omega arith)) in
     record {
       size = length-set fs i v ∙ c.loop-k.invariant.size;
       done = λ k h.
