@@ -20,7 +20,7 @@ module _ {N : Type 0} (f : Format N) where
   get-image m k h = get_or-map-range_with_len (λ (k : ℕ). track_of f (part f.stride m k)) 0 (length m / f.stride) k k None h (zero-add k)
 
   -- where no number outside track k changed, no other track did
-  image-set : (m m' : List N) (k : ℕ) → length m' ≡ length m → k < length m / f.stride
+  pub image-set : (m m' : List N) (k : ℕ) → length m' ≡ length m → k < length m / f.stride
       → ((p : ℕ) → (p < k * f.stride) ⊎ (k * f.stride + f.stride ≤ p) → get_or m' p f.blank ≡ get_or m p f.blank)
       → image_tracks f m' ≡ set (image_tracks f m) k (track_of f (part f.stride m' k))
   image-set m m' k e l h =
