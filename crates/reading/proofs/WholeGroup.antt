@@ -177,6 +177,14 @@ zero-all n p =
       | inr l ↦ past (replicate n 0) p (omega (arith, length-replicate {A = ℕ} n 0))
     ]
 
+-- a part of a list of zeros
+pub zero-front : (xs ys : List ℕ) (n : ℕ) → replicate n 0 ≡ xs ++ ys → (p : ℕ) → get_or xs p 0 ≡ 0
+zero-front xs ys n e p =
+    elim (cases_lt p (length xs)) [
+      | inl l ↦ sym (get_or_append_left xs ys 0 p l) ∙ ap (λ z. get_or z p 0) (sym e) ∙ zero-all n p
+      | inr l ↦ past xs p l
+    ]
+
 pub holds_more : (o : ℕ → Outcome) (rows ys : List ℕ) (sheet : List LossRow) (t n e : ℕ) (r : LossRow) → t < 46 → length rows ≡ 133952 → n ≡ 2912 → Holds o rows sheet t → r ≡ loss_row (o t)
     → length ys ≡ 2912 → ys ≡ row_after (o t) (take e (drop (2912 * t) rows)) → Holds o (put_mid (2912 * t) n rows ys) (set sheet t r) (t + 1)
 holds_more o rows ys sheet t n e r ht len en h er ly ey =
