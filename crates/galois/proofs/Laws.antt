@@ -61,7 +61,7 @@ bit-xor-r c d a =
 
 -- ---- xtime
 
-xtime-xor : (a b : ℕ) → xtime (bit_xor a b) ≡ bit_xor (xtime a) (xtime b)
+pub xtime-xor : (a b : ℕ) → xtime (bit_xor a b) ≡ bit_xor (xtime a) (xtime b)
 unfolding xtime
 xtime-xor a b =
     ap₂ bit_xor
@@ -69,7 +69,7 @@ xtime-xor a b =
     (ap (λ (x : ℕ). x % 2 * 29) (xor_shr a b 7) ∙ ap (λ (x : ℕ). x * 29) (xor_mod (a / 128) (b / 128) 1) ∙ bit-xor-r (a / 128) (b / 128) 29)
     ∙ xor-swap (a * 2 % 256) (b * 2 % 256) (a / 128 % 2 * 29) (b / 128 % 2 * 29)
 
-xtime-lt : (a : ℕ) → xtime a < 256
+pub xtime-lt : (a : ℕ) → xtime a < 256
 unfolding xtime
 xtime-lt a = xor_lt 8 (a * 2 % 256) (a / 128 % 2 * 29) (mod-lt (a * 2) (lit< tt)) (bit-ind (λ (x : ℕ). x * 29 < 256) (a / 128) (lit< tt) (lit< tt))
 
@@ -82,25 +82,25 @@ bit-xtime c a = bit-ind (λ (x : ℕ). x * xtime a ≡ xtime (x * a)) c (simp (z
 
 -- ---- horner
 
-horner-lt : (k a b : ℕ) → a < 256 → horner k a b < 256
+pub horner-lt : (k a b : ℕ) → a < 256 → horner k a b < 256
 unfolding horner
 horner-lt zero a b h = lit< tt
 horner-lt (suc k) a b h =
     xor_lt 8 (b % 2 * a) (xtime (horner k a (b / 2))) (bit-ind (λ (x : ℕ). x * a < 256) b (rw zero-mul (lit< tt)) (rw one-mul h)) (xtime-lt (horner k a (b / 2)))
 
-horner-xor : (k a b c : ℕ) → horner k (bit_xor a b) c ≡ bit_xor (horner k a c) (horner k b c)
+pub horner-xor : (k a b c : ℕ) → horner k (bit_xor a b) c ≡ bit_xor (horner k a c) (horner k b c)
 unfolding horner
 horner-xor zero a b c = refl
 horner-xor (suc k) a b c =
     ap₂ bit_xor (bit-xor-l c a b) (ap xtime (horner-xor k a b (c / 2)) ∙ xtime-xor (horner k a (c / 2)) (horner k b (c / 2)))
     ∙ xor-swap (c % 2 * a) (c % 2 * b) (xtime (horner k a (c / 2))) (xtime (horner k b (c / 2)))
 
-horner-zero : (k c : ℕ) → horner k 0 c ≡ 0
+pub horner-zero : (k c : ℕ) → horner k 0 c ≡ 0
 unfolding horner
 horner-zero zero c = refl
 horner-zero (suc k) c = ap₂ bit_xor (mul-zero (c % 2)) (ap xtime (horner-zero k (c / 2)) ∙ xtime-zero)
 
-horner-xtime : (k a c : ℕ) → horner k (xtime a) c ≡ xtime (horner k a c)
+pub horner-xtime : (k a c : ℕ) → horner k (xtime a) c ≡ xtime (horner k a c)
 unfolding horner
 horner-xtime zero a c = sym xtime-zero
 horner-xtime (suc k) a c =
@@ -111,7 +111,7 @@ horner-bit : (k d a c : ℕ) → horner k (d % 2 * a) c ≡ d % 2 * horner k a c
 horner-bit k d a c = bit-ind (λ (x : ℕ). horner k (x * a) c ≡ x * horner k a c) d (simp (zero-mul, horner-zero)) (simp one-mul)
 
 -- two products by numbers on the right go in either order
-horner-swap : (k m c a b : ℕ) → horner m (horner k c b) a ≡ horner k (horner m c a) b
+pub horner-swap : (k m c a b : ℕ) → horner m (horner k c b) a ≡ horner k (horner m c a) b
 unfolding horner
 horner-swap zero m c a b = horner-zero m a
 horner-swap (suc k) m c a b =
@@ -119,7 +119,7 @@ horner-swap (suc k) m c a b =
     ∙ ap₂ bit_xor (horner-bit m b c a) (horner-xtime m (horner k c (b / 2)) a ∙ ap xtime (horner-swap k m c a (b / 2)))
 
 -- 1 is the unit: 256 computed cases
-horner-one : (b : ℕ) → b < 256 → horner 8 1 b ≡ b
+pub horner-one : (b : ℕ) → b < 256 → horner 8 1 b ≡ b
 unfolding horner xtime
 horner-one b h = at-eq (λ b. horner 8 1 b) (λ b. b) 256 refl b h
 
@@ -142,7 +142,7 @@ gmul-comm a b =
     ∙ horner-swap 8 8 1 (b % 256) (a % 256)
     ∙ ap (λ x. horner 8 x (a % 256)) (horner-one (b % 256) (low b))
 
-gmul-swap : (a b c : ℕ) → gmul (gmul a b) c ≡ gmul (gmul a c) b
+pub gmul-swap : (a b c : ℕ) → gmul (gmul a b) c ≡ gmul (gmul a c) b
 unfolding gmul
 gmul-swap a b c =
     ap (λ x. horner 8 x (c % 256)) (gmul-mod a b)

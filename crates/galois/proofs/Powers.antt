@@ -22,7 +22,7 @@ unfolding gpow
 gpow-mul x i zero = ap (gpow x) (mul-zero i)
 gpow-mul x i (suc j) = ap (gpow x) (mul-suc i j ∙ add_comm (i * j) i) ∙ gpow-add x i (i * j) ∙ ap (gmul (gpow x i)) (gpow-mul x i j)
 
-gpow-one : (e : ℕ) → gpow 1 e ≡ 1
+pub gpow-one : (e : ℕ) → gpow 1 e ≡ 1
 unfolding gpow
 gpow-one zero = refl
 gpow-one (suc e) = gmul-one-l (gpow 1 e) (gpow-lt 1 e) ∙ gpow-one e
@@ -85,7 +85,7 @@ pub alpha-8 : alpha 8 ≡ 29
 unfolding gpow gmul horner xtime
 alpha-8 = refl
 
-alpha-255 : alpha 255 ≡ 1
+pub alpha-255 : alpha 255 ≡ 1
 unfolding gpow gmul horner xtime
 alpha-255 = refl
 
@@ -99,7 +99,7 @@ alpha-mod i =
 
 -- ---- the inverse
 
-pow-255 : (a : ℕ) → 0 < a → a < 256 → gpow a 255 ≡ 1
+pub pow-255 : (a : ℕ) → 0 < a → a < 256 → gpow a 255 ≡ 1
 pow-255 a p h =
     let l : ℕ = get_or logs a 0 in
     ap (λ x. gpow x 255) (sym (logs_at a p h)) ∙ sym (gpow-mul 2 l 255) ∙ ap alpha (mul_comm l 255) ∙ gpow-mul 2 255 l
@@ -108,7 +108,7 @@ pow-255 a p h =
 pub gmul-inv : (a : ℕ) → 0 < a → a < 256 → gmul a (ginv a) ≡ 1
 gmul-inv a p h = unfold ginv gpow in pow-255 a p h
 
-ginv-lt : (a : ℕ) → ginv a < 256
+pub ginv-lt : (a : ℕ) → ginv a < 256
 unfolding ginv
 ginv-lt a = gpow-lt a 254
 

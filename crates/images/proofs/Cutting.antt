@@ -3,7 +3,7 @@ use Rattle.std.proofs.Common.{◌≡◌, ℕ, zero, suc, ◌+◌, ◌*◌, ◌/�
 use Rattle.std.proofs.Math.Nat.{div-zero}
 use borrow.Rule.Slice.PartMut.{put_mid}
 use lib.Seq.{paste}
-use Rattle.std.proofs.lemmas.List.{length-take, length-take-le, length-drop, ext_get_or, places, append_assoc, drop_at, drop-drop, drop-set-lt, drop_more, take_at, take_all, take_more_set}
+use Rattle.std.proofs.lemmas.List.{length-take, length-take-le, length-drop, ext_get_or, places, append_assoc, drop_at, drop-drop, drop-set-lt, drop-take, drop_more, take_at, take_all, take_more_set}
 use Rattle.std.proofs.lemmas.Bool.{cases_order}
 use Rattle.images.specs.Images.{part}
 use Rattle.images.specs.Laws.{get_or_part}
@@ -46,6 +46,12 @@ module _ {X : Type 0} (s : ℕ) where
       let o : s ≡ suc n = omega arith in
       let l : k * s < length xs = omega arith in
       ap (λ (q : ℕ). take q (drop (k * s) xs)) o ∙ ap (take (suc n)) (drop_more xs (k * s) d l)
+
+  -- what is read behind the first item of a part
+  pub part-rest : (xs : List X) (k n : ℕ) → n + 1 ≡ s → take n (drop (k * s + 1) xs) ≡ drop 1 (part s xs k)
+  part-rest xs k n e =
+      let o : s ≡ 1 + n = omega arith in
+      sym (ap (λ (q : ℕ). drop 1 (take q (drop (k * s) xs))) o ∙ (drop-take 1 n (drop (k * s) xs) ∙ ap (take n) (drop-drop 1 (k * s) xs)))
 
   -- the part that is pasted over
   pub part-paste : (xs ys : List X) (k : ℕ) → k * s + s ≤ length xs → length ys ≡ s → part s (paste xs (k * s) ys s) k ≡ ys

@@ -4,6 +4,7 @@ use lib.Seq.{paste}
 use Rattle.std.proofs.lemmas.List.FromFn.{length-map-range_with_len, get_or-map-range_with_len}
 use Rattle.std.proofs.lemmas.List.{length-take, length-drop, length-set, get_or-set_same, get_or-set_other, ext_get_or}
 use Rattle.std.proofs.lemmas.Bool.{cases_eq, not-true, not-false}
+use Rattle.tape.specs.declared.fault.TapeFault.{TapeFault}
 use Rattle.tape.specs.declared.fault.TapeFault.TheVariants.{Blank}
 use Rattle.tape.specs.Tape.{Sound, SoundTrack, reached, fetched, delivered, storing, stored, blanking, blanked}
 use Rattle.images.specs.Images.{Format, Lawful, part, track_of, image_tracks, image_stored, image_blanked}
@@ -20,7 +21,7 @@ module _ {N : Type 0} (f : Format N) where
   get-image m k h = get_or-map-range_with_len (λ (k : ℕ). track_of f (part f.stride m k)) 0 (length m / f.stride) k k None h (zero-add k)
 
   -- where no number outside track k changed, no other track did
-  image-set : (m m' : List N) (k : ℕ) → length m' ≡ length m → k < length m / f.stride
+  pub image-set : (m m' : List N) (k : ℕ) → length m' ≡ length m → k < length m / f.stride
       → ((p : ℕ) → (p < k * f.stride) ⊎ (k * f.stride + f.stride ≤ p) → get_or m' p f.blank ≡ get_or m p f.blank)
       → image_tracks f m' ≡ set (image_tracks f m) k (track_of f (part f.stride m' k))
   image-set m m' k e l h =
@@ -106,7 +107,14 @@ module _ {N : Type 0} (f : Format N) (law : Lawful f) where
           (λ p o. ⊎_elim (paste-below m ns (k * s) s fits long p f.blank) (paste-above m ns (k * s) s fits long p f.blank) o)
           ∙ ap (set (image_tracks f m) k) t
 
--- what fetch answers and delivers where the tests pass, by what is read at the place of the flag: of a blank track,
+-- what fetch answers and delivers where a test declines,
+pub fetch-declined : {N : Type 0} (f : Format N) (m : List N) (k : ℕ) (buf : List ℕ) (e : TapeFault) → reached (length m / f.stride) k (length buf) ≡ Err e
+    → (fetched (image_tracks f m) k (length buf) ≡ Err e) × (delivered (image_tracks f m) k buf ≡ buf)
+fetch-declined f m k buf e h =
+    let a : fetched (image_tracks f m) k (length buf) ≡ Err e = rw (length-image f m, h) in
+    (a, rw a)
+
+-- and where the tests pass, by what is read at the place of the flag: of a blank track,
 module _ {N : Type 0} (f : Format N) (m : List N) (k : ℕ) (buf : List ℕ) (t : ℕ) (ts : t ≡ length (image_tracks f m)) (h : Ok tt ≡ reached t k (length buf))
     (l : k < t) (s : ℕ) (e : s ≡ f.stride) (some : 0 < f.stride) (flag : N) (i : flag ≡ get_or m (k * s) flag) where
   found : get_or (image_tracks f m) k None ≡ cond (f.marks flag) (Some (f.words (take (s - 1) (drop (k * s + 1) m)))) None

@@ -1,8 +1,8 @@
 -- Numbers of several bytes, as the code puts them together.
-use Rattle.std.proofs.Common.{◌≡◌, ℕ, zero, suc, ◌+◌, ◌*◌, ◌^◌, ◌<◌, Bool, true, false, cond, List, [], length, get_or, take, drop, sym, refl, ap, ◌∙◌, arith, length-drop, length-take}
+use Rattle.std.proofs.Common.{◌≡◌, ℕ, zero, suc, ◌+◌, ◌*◌, ◌^◌, ◌<◌, Bool, true, false, cond, ◌&&◌, ◌≢◌, List, [], length, get_or, take, drop, sym, refl, ap, ◌∙◌, arith, length-drop, length-take}
 use Rattle.index.specs.Bytes.{number, empty}
 use Rattle.std.specs.Prelude.{◌↔◌, IsTrue, EachIndex}
-use Rattle.std.proofs.lemmas.Bool.{eq-eqb, eqb-true, and_parts, and_from, false≢true}
+use Rattle.std.proofs.lemmas.Bool.{eq-eqb, ne_eqb, eqb-true, and_parts, and_from, false≢true}
 
 pub number-two : (xs : List ℕ) (i : ℕ) → get_or xs i 0 * 256 + get_or xs (i + 1) 0 ≡ number 2 i xs
 unfolding number
@@ -20,10 +20,17 @@ number-three xs i a b c p q r =
     at : (a b : ℕ) → a ≡ b → get_or xs a 0 ≡ get_or xs b 0
     at a b e = ap (λ (x : ℕ). get_or xs x 0) e
 
-pub number-four : (xs : List ℕ) (i : ℕ)
+pub number-four : (xs : List ℕ) (i : ℕ) → number 2 i xs * 65536 + number 2 (i + 2) xs ≡ number 4 i xs
+unfolding number
+number-four xs i = omega (arith, at (i + 2 + 0) (i + 2) (omega arith), at (i + 2 + 1) (i + 3) (omega arith))
+  where
+    at : (a b : ℕ) → a ≡ b → get_or xs a 0 ≡ get_or xs b 0
+    at a b e = ap (λ (x : ℕ). get_or xs x 0) e
+
+pub number-bytes : (xs : List ℕ) (i : ℕ)
     → ((get_or xs i 0 * 256 + get_or xs (i + 1) 0) * 256 + get_or xs (i + 2) 0) * 256 + get_or xs (i + 3) 0 ≡ number 4 i xs
 unfolding number
-number-four xs i = omega (arith, ap (λ j. get_or xs j 0) zero-added)
+number-bytes xs i = omega (arith, ap (λ j. get_or xs j 0) zero-added)
   where
     zero-added : i + 0 ≡ i
     zero-added = omega arith
@@ -64,3 +71,17 @@ empty-is g ys i n false h l e = go (empty g i n) refl
     go : (b : Bool) → empty g i n ≡ b → false ≡ b
     go true q = absurd (false≢true (h.1 (λ k m. e k (omega arith) ∙ empty-at g n i k q (omega arith))))
     go false q = refl
+
+-- one byte more of those that should be 0
+pub empty-more : (g : List ℕ) (i n m : ℕ) → n ≡ suc m → get_or g i 0 ≡ 0 → empty g i n ≡ empty g (i + 1) m
+unfolding empty
+empty-more g i n m e z =
+    ap (empty g i) e ∙ (ap (λ (b : Bool). b && empty g (suc i) m) (eq-eqb (get_or g i 0) 0 z) ∙ ap (λ (j : ℕ). empty g j m) (omega arith))
+
+pub empty-not : (g : List ℕ) (i n m : ℕ) → n ≡ suc m → get_or g i 0 ≢ 0 → empty g i n ≡ false
+unfolding empty
+empty-not g i n m e z = ap (empty g i) e ∙ ap (λ (b : Bool). b && empty g (suc i) m) (ne_eqb (get_or g i 0) 0 z)
+
+pub empty-none : (g : List ℕ) (i n : ℕ) → n ≡ 0 → empty g i n ≡ true
+unfolding empty
+empty-none g i n e = ap (empty g i) e

@@ -1,7 +1,7 @@
 ghost use Rattle.std.specs.Prelude.{◌≡◌, replicate, if◌then◌else◌, Some, None, nat_lt, slice_index_or, slice_set};
 ghost use Rattle.losses.specs.Losses.{cause_number, is_loss, no_loss};
 
-use layout::sizes::TRACKS;
+pub use layout::sizes::TRACKS;
 
 /// Why a track is lost.
 #[derive(Clone, Copy, PartialEq, Eq, Debug)]

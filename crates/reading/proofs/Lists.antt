@@ -1,7 +1,9 @@
 -- Lists that a loop fills, and the lost places of a word.
-use Rattle.std.proofs.Common.{◌≡◌, ℕ, ◌+◌, ◌*◌, ◌<◌, Bool, not, ◌&&◌, ◌||◌, eqb, List, length, get_or, set, Option, sym, ap, ◌∙◌, subst, ap₂, arith}
+use Rattle.std.proofs.Common.{◌≡◌, ℕ, ◌+◌, ◌-◌, ◌*◌, ◌<◌, ◌≤◌, Bool, cond, not, ◌&&◌, ◌||◌, eqb, List, ◌∷◌, length, get_or, drop, set, Option, sym, ap, ◌∙◌, subst, ap₂, add-one, arith}
 use lib.Bits.{bit_xor}
 use Rattle.std.specs.List.{AllByRecursion}
+use Rattle.std.proofs.lemmas.List.{drop-set}
+use Rattle.std.proofs.lemmas.Bool.{cond_both}
 use Rattle.std.proofs.lemmas.List.Edits.{fill_by_more}
 use Rattle.reed_solomon.specs.Words.{Places, Distinct}
 use Rattle.layout.specs.Counts.{which}
@@ -15,7 +17,19 @@ pub fill_step : {X : Type 0} (f : ℕ → X) (xs : List X) (i : ℕ) (d v : X) �
     → (k : ℕ) → k < i + 1 → get_or (set xs i v) k d ≡ f k
 fill_step f xs i d v h e inv k l = ap (λ z. get_or (set xs i z) k d) e ∙ fill_by_more f xs i d h inv k l
 
--- ---- the places that pass a test
+-- ---- the places that pass a test, put before one another
+
+pub put-kept : (out : List ℕ) (k j : ℕ) → 0 < k → k ≤ length out → drop (k - 1) (set out (k - 1) j) ≡ j ∷ drop k out
+put-kept out k j h l = let e : k - 1 + 1 ≡ k = omega arith in drop-set out (k - 1) j (omega arith) ∙ ap (λ n. j ∷ drop n out) e
+
+pub which-more : (f : ℕ → Bool) (size j k r : ℕ) (out out' : List ℕ) → j < size → k ≤ size → size ≤ k + j → drop k out ≡ which f j → r ≡ cond (f j) (k - 1) k
+    → drop r out' ≡ cond (f j) (j ∷ drop k out) (drop k out) → (r ≤ size) × (size ≤ r + (j + 1)) × (drop r out' ≡ which f (j + 1))
+unfolding which
+which-more f size j k r out out' hj hk hs e er ed = (
+  cond_both (f j) (k - 1) k (λ z. r ≡ z → r ≤ size) (λ _ q. omega arith) (λ _ q. omega arith) er,
+  cond_both (f j) (k - 1) k (λ z. r ≡ z → size ≤ r + (j + 1)) (λ _ q. omega arith) (λ _ q. omega arith) er,
+  ed ∙ ap (λ z. cond (f j) (j ∷ z) z) e ∙ ap (which f) (sym (add-one j)),
+)
 
 pub which-places : (f : ℕ → Bool) (size : ℕ) (ps : List ℕ) → ps ≡ which f size → Places size ps
 which-places f size ps e = record {

@@ -4,6 +4,7 @@ use lib.ListN.{length-replicate, get_or-replicate}
 use borrow.Rule.Slice.PartMut.{put_mid}
 use Rattle.layout.proofs.Parts.{mid-before, mid-in, mid-after}
 use Rattle.std.proofs.lemmas.List.FromFn.{fill_by_all}
+use Rattle.std.proofs.lemmas.List.{get_or_append_left}
 use Rattle.std.proofs.lemmas.Bool.{cases_eq, cases_lt, eq-eqb}
 use Rattle.layout.specs.Counts.{count, which, listed}
 use Rattle.layout.specs.Randomizer.{randomized}
@@ -175,6 +176,14 @@ zero-all n p =
     elim (cases_lt p n) [
       | inl l ↦ get_or-replicate n p 0 0 l
       | inr l ↦ past (replicate n 0) p (omega (arith, length-replicate {A = ℕ} n 0))
+    ]
+
+-- a part of a list of zeros
+pub zero-front : (xs ys : List ℕ) (n : ℕ) → replicate n 0 ≡ xs ++ ys → (p : ℕ) → get_or xs p 0 ≡ 0
+zero-front xs ys n e p =
+    elim (cases_lt p (length xs)) [
+      | inl l ↦ sym (get_or_append_left xs ys 0 p l) ∙ ap (λ z. get_or z p 0) (sym e) ∙ zero-all n p
+      | inr l ↦ past xs p l
     ]
 
 pub holds_more : (o : ℕ → Outcome) (rows ys : List ℕ) (sheet : List LossRow) (t n e : ℕ) (r : LossRow) → t < 46 → length rows ≡ 133952 → n ≡ 2912 → Holds o rows sheet t → r ≡ loss_row (o t)

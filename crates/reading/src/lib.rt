@@ -11,7 +11,7 @@ mod decoding;
 pub mod group;
 mod lost_words;
 mod passing;
-mod randomizer;
+pub mod randomizer;
 mod recovery;
 pub mod theorems;
 pub mod track;

@@ -15,7 +15,7 @@ use Rattle.galois.proofs.Powers.{gpow-lt, gpow-mul, alpha-inj}
 abbrev pub weight : ℕ → ℕ → ℕ
 weight n p = alpha (n - 1 - p)
 
-weight-pow : (n p e : ℕ) → gpow (weight n p) e ≡ alpha (e * (n - 1 - p))
+pub weight-pow : (n p e : ℕ) → gpow (weight n p) e ≡ alpha (e * (n - 1 - p))
 weight-pow n p e = sym (gpow-mul 2 (n - 1 - p) e) ∙ ap alpha (mul_comm (n - 1 - p) e)
 
 weight-inj : (n p q : ℕ) → n ≤ 255 → p < n → q < n → weight n q ≡ weight n p → q ≡ p
@@ -45,7 +45,7 @@ change x v w s =
     ∙ sym (xor_assoc (gmul x w) s (bit_xor (gmul x w) (gmul v w))) ∙ ap (bit_xor (bit_xor (gmul x w) s)) (sym (gmul-xor-l x v w))
 
 -- one byte written
-syn-set : (e : ℕ) (b : List ℕ) (p v : ℕ) → p < length b
+pub syn-set : (e : ℕ) (b : List ℕ) (p v : ℕ) → p < length b
     → syndrome e (set b p v) ≡ bit_xor (syndrome e b) (gmul (bit_xor (get_or b p 0) v) (alpha (e * (length b - 1 - p))))
 unfolding syndrome
 syn-set e [] p v h = absurd (not-suc-le-zero h)
@@ -66,7 +66,7 @@ byte-at [] h k = lit< tt
 byte-at (x ∷ xs) h zero = h.0
 byte-at (x ∷ xs) h (suc k) = byte-at xs h.1 k
 
-length-patch : (b ps vs : List ℕ) → length (patch b ps vs) ≡ length b
+pub length-patch : (b ps vs : List ℕ) → length (patch b ps vs) ≡ length b
 unfolding patch
 length-patch b [] vs = refl
 length-patch b (p ∷ ps) [] = refl

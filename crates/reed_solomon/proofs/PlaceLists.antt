@@ -12,13 +12,13 @@ use Rattle.reed_solomon.specs.Words.{Within, Distinct}
 pub refuted : {P : Type 0} → (P → ⊥) → Decides false P
 refuted f = (λ e. absurd (subst T (sym e) tt), λ p. absurd (f p))
 
-distinct-at : (ps : List ℕ) → Distinct ps → (j k : ℕ) → j < k → k < length ps → get_or ps j 0 ≢ get_or ps k 0
+pub distinct-at : (ps : List ℕ) → Distinct ps → (j k : ℕ) → j < k → k < length ps → get_or ps j 0 ≢ get_or ps k 0
 distinct-at [] d j k h l = absurd (omega arith)
 distinct-at (p ∷ ps) d j zero h l = absurd (omega arith)
 distinct-at (p ∷ ps) d zero (suc k) h l = λ e. All-get_or (λ q. q ≢ p) ps k 0 (omega arith) d.0 (sym e)
 distinct-at (p ∷ ps) d (suc j) (suc k) h l = distinct-at ps d.1 j k (omega arith) (omega arith)
 
-distinct_from : (ps : List ℕ) → ((j k : ℕ) → j < k → k < length ps → get_or ps j 0 ≢ get_or ps k 0) → Distinct ps
+pub distinct_from : (ps : List ℕ) → ((j k : ℕ) → j < k → k < length ps → get_or ps j 0 ≢ get_or ps k 0) → Distinct ps
 distinct_from [] h = tt
 distinct_from (p ∷ ps) h = (
   All-from_get_or (λ q. q ≢ p) ps 0 (λ k l e. h 0 (suc k) (omega arith) (omega arith) (sym e)),

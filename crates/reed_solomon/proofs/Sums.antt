@@ -16,7 +16,7 @@ syn-lt e (x ∷ xs) = xor_lt 8 _ _ (gmul-lt x (alpha (e * length xs))) (syn-lt e
 
 -- ---- a check sum, by Horner's rule
 
-syn-push : (e x : ℕ) (xs : List ℕ) → x < 256 → syndrome e (xs ++ x ∷ []) ≡ bit_xor (gmul (syndrome e xs) (alpha e)) x
+pub syn-push : (e x : ℕ) (xs : List ℕ) → x < 256 → syndrome e (xs ++ x ∷ []) ≡ bit_xor (gmul (syndrome e xs) (alpha e)) x
 unfolding syndrome gpow
 syn-push e x [] h =
     xor_zero_r (gmul x (alpha (e * 0))) ∙ ap (λ z. gmul x (alpha z)) (mul-zero e) ∙ gmul-one-r x h ∙ ap (λ z. bit_xor z x) (sym (gmul-zero-l (alpha e)))
@@ -52,6 +52,27 @@ unfolding xsum vsum
 vsum-is e [] vs = refl
 vsum-is e (x ∷ xs) [] = refl
 vsum-is e (x ∷ xs) (v ∷ vs) = ap (bit_xor (gmul v (gpow x e))) (vsum-is e xs vs)
+
+-- the sums over what is left, a value at a time, and at the end
+
+pub xsum-more : (i sum : ℕ) (vs : List ℕ) → i < length vs → bit_xor (bit_xor sum (get_or vs i 0)) (xsum (drop (i + 1) vs)) ≡ bit_xor sum (xsum (drop i vs))
+unfolding xsum
+xsum-more i sum vs h = xor_assoc sum (get_or vs i 0) (xsum (drop (i + 1) vs)) ∙ ap (λ z. bit_xor sum (xsum z)) (sym (drop_more vs i 0 h))
+
+pub vsum-more : (e i sum : ℕ) (xs vs : List ℕ) → i < length xs → i < length vs
+    → bit_xor (bit_xor sum (gmul (get_or vs i 0) (gpow (get_or xs i 0) e))) (vsum e (drop (i + 1) xs) (drop (i + 1) vs)) ≡ bit_xor sum (vsum e (drop i xs) (drop i vs))
+unfolding vsum
+vsum-more e i sum xs vs h k =
+    xor_assoc sum (gmul (get_or vs i 0) (gpow (get_or xs i 0) e)) (vsum e (drop (i + 1) xs) (drop (i + 1) vs))
+    ∙ ap₂ (λ y z. bit_xor sum (vsum e y z)) (sym (drop_more xs i 0 h)) (sym (drop_more vs i 0 k))
+
+pub xsum-end : (i sum : ℕ) (vs : List ℕ) → drop i vs ≡ [] → bit_xor sum (xsum (drop i vs)) ≡ sum
+unfolding xsum
+xsum-end i sum vs e = ap (λ z. bit_xor sum (xsum z)) e ∙ xor_zero_r sum
+
+pub vsum-end : (e i sum : ℕ) (xs vs : List ℕ) → drop i xs ≡ [] → bit_xor sum (vsum e (drop i xs) (drop i vs)) ≡ sum
+unfolding vsum
+vsum-end e i sum xs vs h = ap (λ z. bit_xor sum (vsum e z (drop i vs))) h ∙ xor_zero_r sum
 
 -- ---- values added to a word
 

@@ -1,9 +1,20 @@
 -- Laws of what calls answer.
-use Rattle.std.proofs.Common.{◌≡◌, ℕ, ◌<◌, ◌≤◌, true, ltb, List, length, get_or, Some, None, Ok, Err, sym, refl, ◌∙◌, ⊎_elim, arith}
+use Rattle.std.proofs.Common.{◌≡◌, ℕ, ◌+◌, ◌<◌, ◌≤◌, true, false, ltb, List, length, get_or, drop, Some, None, Ok, Err, sym, refl, ◌∙◌, ⊎_elim, arith}
+use Rattle.std.proofs.lemmas.List.{drop_more, drop_all}
 use Rattle.std.proofs.lemmas.List.Folds.{list_all_at}
 use Rattle.std.proofs.lemmas.Bool.Decides.{nat_tests}
-use Rattle.std.proofs.lemmas.Bool.{le-ltb, cases_lt, true≢false}
+use Rattle.std.proofs.lemmas.Bool.{lt-ltb, le-ltb, cases_lt, true≢false}
 use Rattle.tape.specs.Tape.{Answer, Track, Sound, SoundTrack, narrow, outcome, fetched, delivered, storing, blanking}
+
+-- whether the words that are left are narrow
+pub narrow-none : (xs : List ℕ) (i : ℕ) → length xs ≤ i → narrow (drop i xs) ≡ true
+narrow-none xs i l = rw (drop_all i xs l)
+
+pub narrow-more : (xs : List ℕ) (i : ℕ) → i < length xs → get_or xs i 0 < 1024 → narrow (drop i xs) ≡ narrow (drop (i + 1) xs)
+narrow-more xs i l h = rw (drop_more xs i 0 l, lt-ltb (get_or xs i 0) 1024 h)
+
+pub narrow-not : (xs : List ℕ) (i : ℕ) → i < length xs → 1024 ≤ get_or xs i 0 → narrow (drop i xs) ≡ false
+narrow-not xs i l h = rw (drop_more xs i 0 l, le-ltb (get_or xs i 0) 1024 h)
 
 pub narrow-get : (xs : List ℕ) (i : ℕ) → narrow xs ≡ true → i < length xs → get_or xs i 0 < 1024
 narrow-get xs i e l =

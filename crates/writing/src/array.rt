@@ -3,7 +3,7 @@ ghost use Rattle.layout.specs.Writing.{laid, array_of};
 ghost use Rattle.writing.specs.Arrays.{array_in, c2_filled, c1_filled};
 
 use crate::places::Places;
-use layout::sizes::{ARRAY, ROW};
+pub use layout::sizes::{ARRAY, ROW};
 use reed_solomon::codes::{C1, C2};
 use reed_solomon::interleaved::Interleaving;
 

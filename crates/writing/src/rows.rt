@@ -3,7 +3,8 @@ ghost use Rattle.writing.specs.Rows.{pad_at, data_index, plain_at, c3_filled, Ha
 
 use layout::address::Address;
 use layout::register::Register;
-use layout::sizes::{GROUP, ROW, ROWS, SUB_GROUP, TRACKS};
+pub use layout::sizes::{GROUP, SUB_GROUP};
+use layout::sizes::{ROW, ROWS, TRACKS};
 use reed_solomon::codes::C3;
 use reed_solomon::interleaved::Interleaving;
 
