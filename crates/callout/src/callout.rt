@@ -13,7 +13,7 @@ pub(crate) enum Order {
 
 /// A callout as a text gives it: the orders, the bytes of all records, one behind the other, and the numbers of the lines
 /// that were not understood.
-// The bytes stand together: with a vector for each record, many short records take 1.6 times the memory.
+// The bytes stand together: with a vector for each record, many short records take 1.8 times the memory.
 #[derive(Drop)]
 pub(crate) struct Callout {
     pub(crate) orders: Vec<Order>,

@@ -23,21 +23,21 @@ pub enum Half {
 }
 
 impl Channel {
-    /// The number of the channel.
+    /// 0 for A, 1 for B.
     pub fn number(self) -> usize
         ensures is { result ≡ channel_number self }
         ensures below { result < 2 }
     {
-        self as usize // 0 for A, 1 for B
+        self as usize // as A and B are numbered
     }
 }
 
 impl Half {
-    /// The number of the half.
+    /// 0 for upper, 1 for lower.
     pub fn number(self) -> usize
         ensures is { result ≡ half_number self }
         ensures below { result < 2 }
     {
-        self as usize // 0 for upper, 1 for lower
+        self as usize // as the halves are numbered
     }
 }
